@@ -1,0 +1,102 @@
+-- The starred worked values hold: one test that is computed over the whole table, and the law that a passed test is the statement.
+use Prim.Native.Nat.{ℕ}
+use mathlib.Core.Path.{_≡_, refl, ap, ap₂}
+use mathlib.Core.Bool.{Bool, true, false, false≢true}
+use mathlib.Core.List.{List, [], _∷_, _++_}
+use lib.Dec.{eqb}
+use borrow.Author.Tests.{eqb-true}
+use Rattle.answer.specs.Tests.{_and_, _or_, pick, isSome}
+use Rattle.answer.specs.Limits.{lengthCheck}
+use Rattle.answer.specs.Checks.{_then_, _when_, _unless_, _at_, firstFault, passes}
+use Rattle.answer.specs.Answer.{Answer, done, refused, settle, _onward_, verdict, resultOr}
+use Rattle.answer.proofs.Tests.{and-true}
+use Rattle.address.specs.Address.{memoryAddress, aligned, inDeviceRange, inMemoryRange}
+use Rattle.address.specs.declared.MemoryAddress.{MemoryAddress}
+use Rattle.wire.specs.Field.{field, bytesOf}
+use Rattle.iommu.specs.Table.{holds, addressIn, translate, mapped, validRights, readable, alignedMapping, inRange, soundMapping, soundFrom as soundMappingsFrom, soundTable, touches, inside, anyOf, overlaps, cuts, insert, without, sizeOf as sizesOf}
+use Rattle.iommu.specs.Requests.{mapChecks, unmapChecks}
+use Rattle.memory.specs.Shadow.{initialized, marked, shadowLength}
+use Rattle.memory.specs.Memory.{edit, edited, stores}
+use Rattle.memory.specs.Transfers.{unwrittenAt, hostWriteChecks}
+use Rattle.dma.specs.Transfers.{readFault, transferChecks, deviceReadChecks}
+use Rattle.registers.specs.Rows.{kindOf, selectorOf, sizeOf, rowFrom, rowOf, selects, listed, selectorWidth}
+use Rattle.registers.specs.Values.{powerOfTwo, validQueue, contentChecks, valueChecks}
+use Rattle.registers.specs.File.{current, withValue, reset, soundFrom, soundFile}
+use Rattle.registers.specs.Access.{selectorChecks, setChecks}
+use Rattle.parts.specs.Step.{valueSize, headerChecks, partAt, stepOn, stepAt, valueTo}
+use Rattle.parts.specs.Load.{flagsOf, listedChecks as listedPartChecks, partChecks, taken, finish, onStep, loadFrom, load}
+use Rattle.parts.specs.Save.{encoded, partOf, savedFrom, saved, saveChecks}
+use Rattle.emulator.specs.Machine.{soundMappings, soundLength, sound, lendable, asNoted, usable, poweredOn, withMappings, withRegisters}
+use Rattle.emulator.specs.Effect.{Result, value, location, effectOf, outcomeOf, after, filled}
+use Rattle.emulator.specs.Requests.{entryIn, identify, regionAt, requestedMapping, requestedStart, requestedSize, requestedIndex, argszChecks, listedChecks, requestChecks, listedEffect, requestEffect}
+use Rattle.emulator.specs.Calls.{given, ownChecks, checks, effect, outcome}
+use Rattle.assurance.specs.Starred.{Case, Right, AllRight, none, more, outcomeTo, behind, outcomeIn, mapAt, unmapBuffer, unmapAt, twoMappings, statusPart, offeredPart, regionSeven, cases, Starred}
+
+-- ---- the test, and that it tells
+
+sameResult : Result → Result → Bool
+sameResult (value m) (value n) = eqb m n
+sameResult (value m) (location b s) = false
+sameResult (location a r) (value n) = false
+sameResult (location a r) (location b s) = eqb (a .0) (b .0) and eqb r s
+
+sameAnswer : Answer Result → Answer Result → Bool
+sameAnswer (done r) (done s) = sameResult r s
+sameAnswer (done r) (refused d q) = false
+sameAnswer (refused c p) (done s) = false
+sameAnswer (refused c p) (refused d q) = eqb c d and eqb p q
+
+sameBytes : List ℕ → List ℕ → Bool
+sameBytes [] [] = true
+sameBytes [] (y ∷ ys) = false
+sameBytes (x ∷ xs) [] = false
+sameBytes (x ∷ xs) (y ∷ ys) = eqb x y and sameBytes xs ys
+
+same-result : (r s : Result) → sameResult r s ≡ true → r ≡ s
+unfolding sameResult
+same-result (value m) (value n) h = ap value (eqb-true m n h)
+same-result (value m) (location b s) h = absurd (false≢true h)
+same-result (location a r) (value n) h = absurd (false≢true h)
+same-result (location a r) (location b s) h =
+    ap₂ location (ap memoryAddress (eqb-true (a .0) (b .0) (and-true _ _ h .0))) (eqb-true r s (and-true _ _ h .1))
+
+same-answer : (a b : Answer Result) → sameAnswer a b ≡ true → a ≡ b
+unfolding sameAnswer
+same-answer (done r) (done s) h = ap done (same-result r s h)
+same-answer (done r) (refused d q) h = absurd (false≢true h)
+same-answer (refused c p) (done s) h = absurd (false≢true h)
+same-answer (refused c p) (refused d q) h = ap₂ refused (eqb-true c d (and-true _ _ h .0)) (eqb-true p q (and-true _ _ h .1))
+
+same-bytes : (l m : List ℕ) → sameBytes l m ≡ true → l ≡ m
+unfolding sameBytes
+same-bytes [] [] h = refl
+same-bytes [] (y ∷ ys) h = absurd (false≢true h)
+same-bytes (x ∷ xs) [] h = absurd (false≢true h)
+same-bytes (x ∷ xs) (y ∷ ys) h = ap₂ _∷_ (eqb-true x y (and-true _ _ h .0)) (same-bytes xs ys (and-true _ _ h .1))
+
+right : Case → Bool
+right c =
+    sameAnswer (outcomeIn c .answer) (c .answer)
+    and sameBytes (filled (outcomeIn c .effect .pieces) (c .ask .buffer)) (c .leaves)
+
+allRight : List Case → Bool
+allRight [] = true
+allRight (c ∷ cs) = right c and allRight cs
+
+is-right : (c : Case) → right c ≡ true → Right c
+unfolding right
+is-right c h = record { answer = same-answer _ _ (and-true _ _ h .0); buffer = same-bytes _ _ (and-true _ _ h .1) }
+
+all-right : (cs : List Case) → allRight cs ≡ true → AllRight cs
+unfolding allRight
+all-right [] h = none
+all-right (c ∷ cs) h = more (is-right c (and-true _ _ h .0)) (all-right cs (and-true _ _ h .1))
+
+-- ---- the test passes
+
+tested : allRight cases ≡ true
+unfolding sameResult sameAnswer sameBytes right allRight outcomeTo behind outcomeIn mapAt unmapBuffer unmapAt twoMappings statusPart offeredPart regionSeven cases _and_ _or_ pick isSome lengthCheck _then_ _when_ _unless_ _at_ firstFault passes settle _onward_ verdict resultOr aligned inDeviceRange inMemoryRange field bytesOf holds addressIn translate mapped validRights readable alignedMapping inRange soundMapping soundMappingsFrom soundTable touches inside anyOf overlaps cuts insert without sizesOf mapChecks unmapChecks initialized marked shadowLength edit edited stores unwrittenAt hostWriteChecks readFault transferChecks deviceReadChecks kindOf selectorOf sizeOf rowFrom rowOf selects listed selectorWidth powerOfTwo validQueue contentChecks valueChecks current withValue reset soundFrom soundFile selectorChecks setChecks valueSize headerChecks partAt stepOn stepAt valueTo flagsOf listedPartChecks partChecks taken finish onStep loadFrom load encoded partOf savedFrom saved saveChecks soundMappings soundLength sound lendable asNoted usable poweredOn withMappings withRegisters effectOf outcomeOf after filled entryIn identify regionAt requestedMapping requestedStart requestedSize requestedIndex argszChecks listedChecks requestChecks listedEffect requestEffect given ownChecks checks effect outcome
+tested = refl
+
+pub starred : Starred
+starred = all-right cases tested

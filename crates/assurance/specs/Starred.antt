@@ -1,0 +1,123 @@
+-- The starred worked values of document 01, as one table under one statement.
+use Prim.Native.Nat.{ℕ, _+_, _-_, _^_}
+use mathlib.Core.Path.{_≡_}
+use mathlib.Core.Bool.{Bool}
+use mathlib.Core.List.{List, [], _∷_, _++_}
+use lib.ListN.{length, replicate}
+use Rattle.answer.specs.Codes.{Empty, Range, Cuts, Unwritten, Twice, Value, Missing}
+use Rattle.answer.specs.Answer.{Answer, done, refused}
+use Rattle.address.specs.Address.{page, deviceLimit, deviceAddress, memoryAddress}
+use Rattle.wire.specs.Field.{bytesOf}
+use Rattle.registers.specs.Rows.{QueueConfig}
+use Rattle.emulator.specs.Machine.{Emulator, poweredOn}
+use Rattle.emulator.specs.Effect.{Result, value, Outcome, after, filled}
+use Rattle.emulator.specs.Requests.{container, device}
+use Rattle.emulator.specs.Calls.{Call, request, deviceRead, hostWrite, setRegister, loadParts, saveParts, outcome}
+
+-- a call, and the buffer lent to it
+pub record Ask : Type 0 where
+  pub call : Call
+  pub buffer : List ℕ
+
+unfoldable pub outcomeTo : Ask → Emulator → Outcome
+outcomeTo q e = outcome (q .call) (q .buffer) e
+
+-- the emulator behind a list of calls
+unfoldable pub behind : List Ask → Emulator → Emulator
+behind [] e = e
+behind (q ∷ qs) e = behind qs (after (outcomeTo q e .effect) e)
+
+-- A case: on a fresh emulator of two pages, after the calls `before`, the call `ask` answers `answer` and leaves its buffer as `leaves`.
+pub record Case : Type 0 where
+  pub before : List Ask
+  pub ask : Ask
+  pub answer : Answer Result
+  pub leaves : List ℕ
+
+-- as a fresh start leaves it: nothing is written, whatever bytes stand there
+abbrev pub fresh : Emulator
+fresh = record { memory = record { bytes = replicate (page + page) 0xA5; shadow = replicate (page + page) 0 }; machine = poweredOn (page + page) }
+
+unfoldable pub outcomeIn : Case → Outcome
+outcomeIn c = outcomeTo (c .ask) (behind (c .before) fresh)
+
+pub record Right (c : Case) : Type 0 where
+  pub answer : outcomeIn c .answer ≡ c .answer
+  pub buffer : filled (outcomeIn c .effect .pieces) (c .ask .buffer) ≡ c .leaves
+
+-- every case of a list is right
+pub data AllRight : List Case → Type 0 where
+  none : AllRight []
+  more : {c : Case} {cs : List Case} → Right c → AllRight cs → AllRight (c ∷ cs)
+
+-- ---- buffers
+
+abbrev pub ask : Call → List ℕ → Ask
+ask c buf = record { call = c; buffer = buf }
+
+-- a byte that nobody filled in
+abbrev pub stale : ℕ → List ℕ
+stale n = replicate n 0xEE
+
+-- a map of `n` bytes of memory from its start on, at device address `d`, for reading and writing
+unfoldable pub mapAt : ℕ → ℕ → Ask
+mapAt d n = ask (request container 113) (bytesOf 4 32 ++ bytesOf 4 3 ++ bytesOf 8 0 ++ bytesOf 8 d ++ bytesOf 8 n)
+
+-- an unmap request's buffer with `n` in the size field
+unfoldable pub unmapBuffer : ℕ → ℕ → List ℕ
+unmapBuffer d n = bytesOf 4 24 ++ bytesOf 4 0 ++ bytesOf 8 d ++ bytesOf 8 n
+
+unfoldable pub unmapAt : ℕ → ℕ → Ask
+unmapAt d n = ask (request container 114) (unmapBuffer d n)
+
+-- "[0, 8192) and [8192, 12288)"
+unfoldable pub twoMappings : List Ask
+twoMappings = mapAt 0 8192 ∷ mapAt 8192 4096 ∷ []
+
+unfoldable pub statusPart : List ℕ
+statusPart = 0x03 ∷ 0x01 ∷ 0x00 ∷ 0x00 ∷ replicate 8 0x00 ++ 0x01 ∷ 0x00 ∷ 0x00 ∷ 0x00 ∷ 0x00 ∷ []
+
+unfoldable pub offeredPart : List ℕ
+offeredPart =
+    0x00 ∷ 0x01 ∷ 0x01 ∷ 0x00 ∷ replicate 8 0x00 ++ 0x08 ∷ 0x00 ∷ 0x00 ∷ 0x00 ∷ 0x00 ∷ 0x00 ∷ 0x00 ∷ 0x30 ∷ 0x01 ∷ 0x00 ∷ 0x00 ∷ 0x00 ∷ []
+
+-- "argsz 32 gives `20 00 00 00 03 00 00 00 07 00 00 00 00 00 00 00 00 01 00 00 00 00 00 00 00 00 00 00 00 07 00 00`"
+unfoldable pub regionSeven : List ℕ
+regionSeven =
+    0x20 ∷ 0x00 ∷ 0x00 ∷ 0x00 ∷ 0x03 ∷ 0x00 ∷ 0x00 ∷ 0x00 ∷ 0x07 ∷ 0x00 ∷ 0x00 ∷ 0x00 ∷ 0x00 ∷ 0x00 ∷ 0x00 ∷ 0x00
+    ∷ 0x00 ∷ 0x01 ∷ 0x00 ∷ 0x00 ∷ 0x00 ∷ 0x00 ∷ 0x00 ∷ 0x00 ∷ 0x00 ∷ 0x00 ∷ 0x00 ∷ 0x00 ∷ 0x00 ∷ 0x07 ∷ 0x00 ∷ 0x00 ∷ []
+
+-- ---- the table
+
+-- success with a result
+abbrev pub gives : ℕ → Answer Result
+gives n = done (value n)
+
+-- a case that leaves its buffer as it was
+abbrev pub answers : List Ask → Ask → Answer Result → Case
+answers before q a = record { before = before; ask = q; answer = a; leaves = q .buffer }
+
+unfoldable pub cases : List Case
+cases =
+    record {
+      before = [];
+      ask = ask (request device 108) (bytesOf 4 32 ++ stale 4 ++ bytesOf 4 7 ++ stale 20);
+      answer = gives 0;
+      leaves = regionSeven;
+    }
+    ∷ record { before = []; ask = ask saveParts (stale 43); answer = gives 41; leaves = offeredPart ++ statusPart ++ stale 2 }
+    ∷ answers [] (ask loadParts []) (refused Missing 0)
+    ∷ answers [] (ask loadParts statusPart) (gives 0)
+    ∷ answers [] (ask loadParts (statusPart ++ statusPart)) (refused Twice 17)
+    ∷ answers [] (mapAt (deviceLimit - page) 4096) (gives 0)
+    ∷ answers [] (mapAt (deviceLimit - page) 8192) (refused Range 0)
+    ∷ answers twoMappings (unmapAt 4096 8192) (refused Cuts 0)
+    ∷ record { before = twoMappings; ask = unmapAt 0 12288; answer = gives 0; leaves = unmapBuffer 0 12288 }
+    ∷ answers [] (mapAt 1 0) (refused Empty 0)
+    ∷ answers [] (ask (setRegister QueueConfig 0) (bytesOf 2 3 ++ replicate 30 0)) (refused Value 0)
+    ∷ answers (mapAt 0 4096 ∷ ask (hostWrite (memoryAddress 0)) (0x5A ∷ []) ∷ []) (ask (deviceRead (deviceAddress 0)) (stale 2)) (refused Unwritten 1)
+    ∷ []
+
+-- The statement: all twelve are right. proofs/Starred.antt has its term.
+abbrev pub Starred : Type 0
+Starred = AllRight cases

@@ -1,0 +1,4 @@
+pub mod Machine
+pub mod Effect
+pub mod Requests
+pub mod Calls

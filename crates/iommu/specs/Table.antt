@@ -1,0 +1,113 @@
+-- The mapping table, as the list of its entries in use (document 01, "The bench and its neighbours", "Requests", "Moving bytes").
+use Prim.Native.Nat.{ℕ, _+_, _-_, _/_, _%_}
+use mathlib.Core.Bool.{Bool, true, false, not}
+use mathlib.Core.List.{List, [], _∷_}
+use lib.Dec.{leb, ltb, eqb}
+use lib.ListN.{length}
+use Rattle.answer.specs.Tests.{_and_, _or_, pick}
+use Rattle.address.specs.Address.{memoryOffset, aligned, inDeviceRange, inMemoryRange}
+use Rattle.address.specs.declared.DeviceAddress.{DeviceAddress}
+use Rattle.address.specs.declared.MemoryAddress.{MemoryAddress}
+use Rattle.iommu.specs.declared.Mapping.{Mapping}
+use Rattle.iommu.specs.declared.Translation.{Translation}
+use Rattle.iommu.specs.declared.Translation.the-variants.{At, Nowhere}
+
+-- "At most 64 mappings"
+abbrev pub capacity : ℕ
+capacity = 64
+
+-- one past the last device address of a mapping
+abbrev pub end : Mapping → ℕ
+end m = m .device .0 + m .size
+
+-- ---- look-up
+
+-- the mapping holds a device address
+unfoldable pub holds : Mapping → DeviceAddress → Bool
+holds m d = leb (m .device .0) (d .0) and ltb (d .0) (end m)
+
+-- "the memory address of the mapping that holds its device address + its distance into that mapping"
+unfoldable pub addressIn : Mapping → DeviceAddress → MemoryAddress
+addressIn m d = memoryOffset (m .memory) (d .0 - m .device .0)
+
+-- Look-up: where a device address lies, and with which rights.
+unfoldable pub translate : List Mapping → DeviceAddress → Translation
+translate [] d = Nowhere
+translate (m ∷ ms) d = pick (holds m d) (At (addressIn m d) (m .rights)) (translate ms d)
+
+-- whether a mapping holds the address
+unfoldable pub mapped : Translation → Bool
+mapped (At a rights) = true
+mapped Nowhere = false
+
+-- ---- what a mapping must satisfy: each is a check of the map request, and all are soundness
+
+-- "READ 1 and WRITE 2, at least one, no other bit"
+unfoldable pub validRights : ℕ → Bool
+validRights rights = leb 1 rights and leb rights 3
+
+unfoldable pub readable : ℕ → Bool
+readable rights = eqb (rights % 2) 1
+
+unfoldable pub writable : ℕ → Bool
+writable rights = eqb (rights / 2 % 2) 1
+
+-- both addresses and the size
+unfoldable pub alignedMapping : Mapping → Bool
+alignedMapping m = aligned (m .memory .0) and aligned (m .device .0) and aligned (m .size)
+
+-- not past 2^48, and not past the end of a memory of `size` bytes
+unfoldable pub inRange : ℕ → Mapping → Bool
+inRange size m = inDeviceRange (m .device) (m .size) and inMemoryRange size (m .memory) (m .size)
+
+-- "each aligned, not empty, with rights 1 to 3, below 2^48 and inside the noted length", which is `size`
+unfoldable pub soundMapping : ℕ → Mapping → Bool
+soundMapping size m = alignedMapping m and ltb 0 (m .size) and validRights (m .rights) and inRange size m
+
+-- each mapping sound, "rising, apart": each begins where the one before ends (`low`), or later
+unfoldable pub soundFrom : ℕ → ℕ → List Mapping → Bool
+soundFrom size low [] = true
+soundFrom size low (m ∷ ms) = leb low (m .device .0) and soundMapping size m and soundFrom size (end m) ms
+
+unfoldable pub soundTable : ℕ → List Mapping → Bool
+soundTable size ms = soundFrom size 0 ms
+
+-- ---- ranges of device addresses against mappings
+
+-- a mapping and the `n` device addresses from `d` on share an address
+unfoldable pub touches : DeviceAddress → ℕ → Mapping → Bool
+touches d n m = ltb (d .0) (end m) and ltb (m .device .0) (d .0 + n)
+
+-- a mapping lies wholly inside the range
+unfoldable pub inside : DeviceAddress → ℕ → Mapping → Bool
+inside d n m = leb (d .0) (m .device .0) and leb (end m) (d .0 + n)
+
+-- the test holds of some mapping
+unfoldable pub anyOf : (Mapping → Bool) → List Mapping → Bool
+anyOf test [] = false
+anyOf test (m ∷ ms) = test m or anyOf test ms
+
+-- "shares a device address with a held mapping"
+unfoldable pub overlaps : DeviceAddress → ℕ → List Mapping → Bool
+overlaps d n ms = anyOf (touches d n) ms
+
+-- "the range holds some but not all of a mapping"
+unfoldable pub cuts : DeviceAddress → ℕ → List Mapping → Bool
+cuts d n ms = anyOf (λ m. touches d n m and not (inside d n m)) ms
+
+-- ---- changes
+
+-- with one more mapping, "kept by rising device address"
+unfoldable pub insert : Mapping → List Mapping → List Mapping
+insert m [] = m ∷ []
+insert m (x ∷ xs) = pick (ltb (m .device .0) (x .device .0)) (m ∷ x ∷ xs) (x ∷ insert m xs)
+
+-- without those of which the test holds
+unfoldable pub without : (Mapping → Bool) → List Mapping → List Mapping
+without test [] = []
+without test (m ∷ ms) = pick (test m) (without test ms) (m ∷ without test ms)
+
+-- the sum of the sizes of those of which the test holds
+unfoldable pub sizeOf : (Mapping → Bool) → List Mapping → ℕ
+sizeOf test [] = 0
+sizeOf test (m ∷ ms) = pick (test m) (m .size) 0 + sizeOf test ms

@@ -1,0 +1,1 @@
+// Memory with a shadow: for each byte whether anybody has written it.

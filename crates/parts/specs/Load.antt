@@ -1,0 +1,71 @@
+-- Loading a stream of parts (document 01, "Registers and parts").
+use Prim.Native.Nat.{ℕ, zero, suc, _^_}
+use mathlib.Core.Bool.{Bool}
+use mathlib.Core.List.{List}
+use mathlib.Core.Option.{Option, none, some}
+use lib.ListN.{length, getD, set, drop, replicate}
+use lib.Dec.{ltb, leb, eqb}
+use Rattle.answer.specs.Tests.{pick, isSome}
+use Rattle.answer.specs.Codes.{Index, Running, Truncated, Header, UnknownPart, Missing}
+use Rattle.answer.specs.Checks.{_then_, _when_, _unless_, _at_}
+use Rattle.answer.specs.Limits.{lengthCheck}
+use Rattle.answer.specs.Answer.{Answer, refused, settle, _onward_}
+use Rattle.answer.specs.declared.Verdict.{Verdict}
+use Rattle.registers.specs.Rows.{OfferedFeatures, rowCount, statusRow, rowOf, selects, listed, selectorWidth}
+use Rattle.registers.specs.Values.{valueChecks}
+use Rattle.registers.specs.File.{File}
+use Rattle.parts.specs.Step.{stepAt, valueTo}
+use Rattle.parts.specs.declared.Step.{Step}
+use Rattle.parts.specs.declared.Step.the-variants.{Part, End, Refused}
+
+-- What the parts so far have named: for each row of the table, that of offered features too, the value or none.
+abbrev pub Seen : Type 0
+Seen = List (Option (List ℕ))
+
+abbrev pub nothingSeen : Seen
+nothingSeen = replicate rowCount none
+
+-- offered features are flagged optional, and no other listed type
+unfoldable pub flagsOf : ℕ → ℕ
+flagsOf kind = pick (eqb kind OfferedFeatures) 1 0
+
+-- A part of a listed type: "optional set on a listed type other than 0x100, or clear on 0x100, or a nonzero selector byte outside the
+-- field named above (19); selector number not listed (6, place: start of the part)"; then its value
+unfoldable pub listedChecks : Seen → ℕ → ℕ → ℕ → List ℕ → Verdict
+listedChecks seen kind flags selector v =
+    Header unless eqb flags (flagsOf kind)
+    then Header unless ltb selector (256 ^ selectorWidth kind)
+    then Index unless selects kind selector
+    then valueChecks (rowOf kind selector) (isSome (getD seen (rowOf kind selector) none)) v
+
+-- A part behind the first three checks: "type 0x600 or above (20); any other unlisted type is skipped if flagged optional (bit 0), else 20"
+unfoldable pub partChecks : Seen → ℕ → ℕ → ℕ → List ℕ → Verdict
+partChecks seen kind flags selector v =
+    UnknownPart when leb 0x600 kind
+    then pick (listed kind) (listedChecks seen kind flags selector v) (UnknownPart unless eqb flags 1)
+
+-- what is seen with a part that passed: a part of an unlisted type is skipped
+unfoldable pub taken : Seen → ℕ → ℕ → List ℕ → Seen
+taken seen kind selector v = pick (listed kind) (set seen (rowOf kind selector) (some v)) seen
+
+-- "At the end, 24", at the stream's length. "Accepted: registers named take their values, all others become unset"; what the stream
+-- said of offered features, row 0, is not kept.
+unfoldable pub finish : Seen → ℕ → Answer File
+finish seen p = settle ((Missing unless isSome (getD seen statusRow none)) at p) (drop 1 seen)
+
+unfoldable pub onStep : (ℕ → Seen → Answer File) → List ℕ → ℕ → Seen → Step → Answer File
+onStep more s p seen End = finish seen p
+onStep more s p seen (Refused code place) = refused code place
+onStep more s p seen (Part kind flags selector next) =
+    settle (partChecks seen kind flags selector (valueTo s p next) at p) (taken seen kind selector (valueTo s p next)) onward more next
+
+-- the parts from place `p` on, fewer than `fuel` of them: a part has 16 bytes at least, so a stream has fewer parts than bytes, or none
+unfoldable pub loadFrom : ℕ → List ℕ → ℕ → Seen → Answer File
+loadFrom zero s p seen = refused Truncated p
+loadFrom (suc fuel) s p seen = onStep (loadFrom fuel s) s p seen (stepAt s p)
+
+-- Loading: "checks 17, 13, then each part in order"; the register file that an accepted stream makes
+unfoldable pub load : Bool → List ℕ → Answer File
+load running s =
+    settle (Running when running then lengthCheck (length s)) nothingSeen
+    onward loadFrom (suc (length s)) s 0

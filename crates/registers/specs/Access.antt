@@ -1,0 +1,48 @@
+-- Setting and reading a register by type and selector number (document 01, "Registers and parts"), in its order of checks.
+use Prim.Native.Nat.{ℕ}
+use mathlib.Core.Bool.{Bool, false}
+use mathlib.Core.List.{List, []}
+use mathlib.Core.Option.{Option, none, some}
+use lib.Dec.{ltb, eqb}
+use Rattle.answer.specs.Tests.{_and_, isSome}
+use Rattle.answer.specs.Codes.{Index, Header, UnknownPart, Unset, ReadOnly, NoSpace}
+use Rattle.answer.specs.Checks.{_then_, _when_, _unless_}
+use Rattle.answer.specs.declared.Verdict.{Verdict}
+use Rattle.registers.specs.Rows.{OfferedFeatures, rowOf, sizeOf, selects, listed, selectorWidth}
+use Rattle.registers.specs.Values.{valueChecks}
+use Rattle.registers.specs.File.{File, current, withValue}
+
+-- "19 (nonzero selector where none is used), 6"
+unfoldable pub selectorChecks : ℕ → ℕ → Verdict
+selectorChecks kind selector =
+    Header when eqb (selectorWidth kind) 0 and ltb 0 selector
+    then Index unless selects kind selector
+
+-- Setting: "20, 26, 19, 6, then length and value as above, place 0"
+unfoldable pub setChecks : ℕ → ℕ → List ℕ → Verdict
+setChecks kind selector v =
+    UnknownPart unless listed kind
+    then ReadOnly when eqb kind OfferedFeatures
+    then selectorChecks kind selector
+    then valueChecks (rowOf kind selector) false v
+
+-- the file with the register set
+unfoldable pub setTo : File → ℕ → ℕ → List ℕ → File
+setTo file kind selector v = withValue file (rowOf kind selector) v
+
+-- Reading into a buffer of `room` bytes: "20, 19, 6, 25, 27"
+unfoldable pub readChecks : File → ℕ → ℕ → ℕ → Verdict
+readChecks file kind selector room =
+    UnknownPart unless listed kind
+    then selectorChecks kind selector
+    then Unset unless isSome (current file (rowOf kind selector))
+    then NoSpace when ltb room (sizeOf (rowOf kind selector))
+
+-- a value, and nothing for a register that is not set
+unfoldable pub orEmpty : Option (List ℕ) → List ℕ
+orEmpty none = []
+orEmpty (some v) = v
+
+-- the bytes that reading gives
+unfoldable pub readValue : File → ℕ → ℕ → List ℕ
+readValue file kind selector = orEmpty (current file (rowOf kind selector))

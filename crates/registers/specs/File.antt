@@ -1,0 +1,66 @@
+-- The register file: for each register that is kept its value, or none where it is not set.
+use Prim.Native.Nat.{ℕ, zero, suc, _-_}
+use mathlib.Core.Bool.{Bool, true, false}
+use mathlib.Core.List.{List, [], _∷_, _++_}
+use mathlib.Core.Option.{Option, none, some}
+use lib.ListN.{length, getD, set, take, replicate}
+use Rattle.answer.specs.Tests.{_and_, pick, isSome}
+use Rattle.answer.specs.Checks.{passes}
+use Rattle.wire.specs.Field.{bytesOf}
+use Rattle.registers.specs.Rows.{statusRow, sizeOf}
+use Rattle.registers.specs.Values.{offered, valueChecks}
+use Rattle.registers.specs.declared.Register.{Register}
+use Rattle.registers.specs.declared.Registers.{Registers}
+
+-- the values of rows 1, 2, .. of the table
+abbrev pub File : Type 0
+File = List (Option (List ℕ))
+
+abbrev pub keptCount : ℕ
+keptCount = 14
+
+-- what a row shows: "offered features are constant"
+unfoldable pub current : File → ℕ → Option (List ℕ)
+current file zero = some (bytesOf 8 offered)
+current file (suc i) = getD file i none
+
+-- the file with a value in a row
+unfoldable pub withValue : File → ℕ → List ℕ → File
+withValue file zero v = file
+withValue file (suc i) v = set file i (some v)
+
+-- no register is set
+abbrev pub blank : File
+blank = replicate keptCount none
+
+-- "Reset sets status to 0 and unsets all others"
+unfoldable pub reset : File
+reset = withValue blank statusRow (0 ∷ [])
+
+-- "every set register holds a value that setting (for 0x100, loading) accepts", from row `i` on
+unfoldable pub soundFrom : ℕ → File → Bool
+soundFrom i [] = true
+soundFrom i (none ∷ file) = soundFrom (suc i) file
+soundFrom i (some v ∷ file) = passes (valueChecks i false v) and soundFrom (suc i) file
+
+-- "status is set, and every set register holds a value that setting accepts"
+unfoldable pub soundFile : File → Bool
+soundFile file = isSome (current file statusRow) and soundFrom 1 file
+
+-- ---- the file that the code's registers are
+
+-- the value that a register of row `i` holds; what is kept behind it, or of a register that is not set, means nothing
+unfoldable pub valueIn : ℕ → Register → Option (List ℕ)
+valueIn i r = pick (r .set) (some (take (sizeOf i) (r .bytes))) none
+
+unfoldable pub fileFrom : ℕ → List Register → File
+fileFrom i [] = []
+fileFrom i (r ∷ rs) = valueIn i r ∷ fileFrom (suc i) rs
+
+unfoldable pub fileOf : Registers → File
+fileOf registers = fileFrom 1 (registers .slots)
+
+-- a register as code writes it: zeros behind the value, and nothing but zeros where it is not set
+unfoldable pub registerOf : Option (List ℕ) → Register
+registerOf none = record { set = false; bytes = replicate 32 0 }
+registerOf (some v) = record { set = true; bytes = v ++ replicate (32 - length v) 0 }

@@ -1,0 +1,99 @@
+-- Laws of little-endian fields, each proved once over the width.
+use Prim.Native.Nat.{ℕ, zero, suc, _+_, _*_, _-_, _/_, _%_, _^_, _≤_, _<_}
+use native.Mathlib.Nat.{pow-suc, pow-le-pow-right, add-suc, suc-add, add-zero}
+use native.Mathlib.Omega.{arith}
+use mathlib.Core.Path.{_≡_, refl, sym, _∙_, ap}
+use mathlib.Core.List.{List, [], _∷_, _++_}
+use lib.ListN.{length, getD, set, drop, length-set}
+use lib.Seq.{sets, getD-drop, getD-set-other, getD-set-same}
+use Rattle.wire.specs.Field.{field, bytesOf}
+
+-- ---- bounds
+
+pub length-bytes : (w x : ℕ) → length (bytesOf w x) ≡ w
+unfolding bytesOf
+length-bytes zero x = refl
+length-bytes (suc w) x = ap suc (length-bytes w (x / 256))
+
+-- a field of `w` bytes is below 256 ^ w
+pub field-lt : (l : List ℕ) → ((i : ℕ) → getD l i 0 < 256) → (o w : ℕ) → field l o w < 256 ^ w
+unfolding field
+field-lt l h o zero = omega arith
+field-lt l h o (suc w) = omega (arith, h o, field-lt l h (suc o) w, pow-suc 256 w)
+
+-- ---- where a field lies
+
+-- two lists that agree on the field's bytes have the same field
+pub field-cong : (l m : List ℕ) (o w : ℕ) → ((i : ℕ) → i < w → getD l (o + i) 0 ≡ getD m (o + i) 0) → field l o w ≡ field m o w
+unfolding field
+field-cong l m o zero h = refl
+field-cong l m o (suc w) h =
+    rw (rw add-zero at (h 0 (omega arith)), field-cong l m (suc o) w (λ i lt. rw (suc-add o i, ← add-suc o i) (h (suc i) (omega arith))))
+
+-- a field behind a prefix
+pub field-drop : (l : List ℕ) (p o w : ℕ) → field (drop p l) o w ≡ field l (p + o) w
+unfolding field
+field-drop l p o zero = refl
+field-drop l p o (suc w) = rw (getD-drop p l o 0, field-drop l p (suc o) w, add-suc p o)
+
+pub field-tail : (x : ℕ) (l : List ℕ) (o w : ℕ) → field (x ∷ l) (suc o) w ≡ field l o w
+unfolding field
+field-tail x l o zero = refl
+field-tail x l o (suc w) = rw (field-tail x l (suc o) w)
+
+-- ---- what a write then reads
+
+-- a number written at the front of a list is read back
+pub field-bytes : (w x : ℕ) (l : List ℕ) → x < 256 ^ w → field (bytesOf w x ++ l) 0 w ≡ x
+unfolding field bytesOf
+field-bytes zero x l h = omega arith
+field-bytes (suc w) x l h =
+    rw (field-tail (x % 256) (bytesOf w (x / 256) ++ l) 0 w, field-bytes w (x / 256) l (let e = pow-suc 256 w in omega arith)) (omega arith)
+
+-- what bytes written from offset `o` on leave at another offset
+pub getD-sets-other : (l : List ℕ) (o : ℕ) (xs : List ℕ) (i : ℕ) → (o ≤ i → i < o + length xs → ⊥) → getD (sets l o xs) i 0 ≡ getD l i 0
+getD-sets-other l o [] i h = refl
+getD-sets-other l o (x ∷ xs) i h =
+    getD-sets-other (set l o x) (suc o) xs i (λ a b. h (omega arith) (omega arith))
+    ∙ getD-set-other l o i x 0 (λ e. h (omega arith) (omega arith))
+
+-- a field that lies before or behind what is written stays
+pub field-sets-other : (l : List ℕ) (o : ℕ) (xs : List ℕ) (p w : ℕ) → (((i : ℕ) → i < w → o ≤ p + i → p + i < o + length xs → ⊥))
+    → field (sets l o xs) p w ≡ field l p w
+field-sets-other l o xs p w h = field-cong (sets l o xs) l p w (λ i lt. getD-sets-other l o xs (p + i) (h i lt))
+
+-- a number written at a place is read back there
+pub field-sets : (l : List ℕ) (o w x : ℕ) → o + w ≤ length l → x < 256 ^ w → field (sets l o (bytesOf w x)) o w ≡ x
+unfolding field bytesOf
+field-sets l o zero x room h = omega arith
+field-sets l o (suc w) x room h =
+    let first : getD (sets (set l o (x % 256)) (suc o) (bytesOf w (x / 256))) o 0 ≡ x % 256 =
+    getD-sets-other (set l o (x % 256)) (suc o) (bytesOf w (x / 256)) o (λ a b. omega arith) ∙ getD-set-same l o (x % 256) 0 (omega arith) in
+    let rest = field-sets (set l o (x % 256)) (suc o) w (x / 256) (omega (arith, length-set l o (x % 256))) (let e = pow-suc 256 w in omega arith) in
+    rw (first, rest) (omega arith)
+
+-- ---- a loop that reads a field, its last byte first
+
+module _ (l : List ℕ) (at width i x : ℕ) (pos : 0 < i) (most : i ≤ width) (is : x ≡ field l (at + i) (width - i)) where
+  pub field-more : x * 256 + getD l (at + (i - 1)) 0 ≡ field l (at + (i - 1)) (width - (i - 1))
+  unfolding field
+  field-more =
+      let e : width - (i - 1) ≡ suc (width - i) = omega arith in
+      let f : suc (at + (i - 1)) ≡ at + i = omega arith in
+      rw (e, f, ← is) (omega arith)
+
+  pub field-room : width ≤ 8 → ((k : ℕ) → getD l k 0 < 256) → x < 256 ^ 7
+  field-room small bytes =
+      let few : width - i ≤ 7 = omega arith in
+      let p : 256 ^ (width - i) ≤ 256 ^ 7 = pow-le-pow-right {n = 256} (omega arith) few in
+      omega (arith, field-lt l bytes (at + i) (width - i))
+
+-- ---- a loop that writes a number, its first byte first
+
+pub put-more : (l : List ℕ) (at width i y : ℕ) → i < width
+    → sets l (at + i) (bytesOf (width - i) y) ≡ sets (set l (at + i) (y % 256)) (at + (i + 1)) (bytesOf (width - (i + 1)) (y / 256))
+unfolding bytesOf
+put-more l at width i y h =
+    let e : width - i ≡ suc (width - (i + 1)) = omega arith in
+    let f : suc (at + i) ≡ at + (i + 1) = omega arith in
+    rw (e, ← f)

@@ -1,0 +1,91 @@
+// Bytes and little-endian fields of 1, 2, 4 and 8 bytes at a place of a byte slice.
+ghost use mathlib.Core.Path.{_≡_};
+ghost use Prim.Native.Nat.{_+_, _≤_};
+ghost use lib.ListN.{length};
+ghost use lib.Seq.{sets};
+ghost use Rattle.wire.specs.Field.{field, bytesOf};
+
+// The number that the `width` bytes from `at` on make. Each width calls it with a constant, for which the loop is unrolled.
+fn get(s: &[u8], at: usize, width: usize) -> u64
+    requires { ⌜ (at + width ≤ length (now s)) × (width ≤ 8) ⌝ }
+    ensures { λ r. ⌜ r ≡ field (now (s .entry)) at width ⌝ }
+{
+    let mut x: u64 = 0;
+    let mut i = width;
+    while 0 < i {
+        i -= 1;
+        let b = s[at + i] as u64;
+        x = x * 256 + b;
+    }
+    x
+}
+
+pub fn get_u8(s: &[u8], at: usize) -> u8
+    requires { ⌜ at + 1 ≤ length (now s) ⌝ }
+    ensures { λ r. ⌜ r ≡ field (now (s .entry)) at 1 ⌝ }
+{
+    get(s, at, 1) as u8
+}
+
+pub fn get_u16(s: &[u8], at: usize) -> u16
+    requires { ⌜ at + 2 ≤ length (now s) ⌝ }
+    ensures { λ r. ⌜ r ≡ field (now (s .entry)) at 2 ⌝ }
+{
+    get(s, at, 2) as u16
+}
+
+pub fn get_u32(s: &[u8], at: usize) -> u32
+    requires { ⌜ at + 4 ≤ length (now s) ⌝ }
+    ensures { λ r. ⌜ r ≡ field (now (s .entry)) at 4 ⌝ }
+{
+    get(s, at, 4) as u32
+}
+
+pub fn get_u64(s: &[u8], at: usize) -> u64
+    requires { ⌜ at + 8 ≤ length (now s) ⌝ }
+    ensures { λ r. ⌜ r ≡ field (now (s .entry)) at 8 ⌝ }
+{
+    get(s, at, 8)
+}
+
+// Writes a number as `width` bytes from `at` on.
+fn put(buf: &mut [u8], at: usize, width: usize, x: u64)
+    requires { ⌜ at + width ≤ length (now buf) ⌝ }
+    ensures { λ r. ⌜ now (buf .exit) ≡ sets (now (buf .entry)) at (bytesOf width x) ⌝ }
+{
+    let mut y = x;
+    let mut i: usize = 0;
+    while i < width {
+        buf[at + i] = (y % 256) as u8;
+        y = y / 256;
+        i += 1;
+    }
+}
+
+pub fn put_u8(buf: &mut [u8], at: usize, x: u8)
+    requires { ⌜ at + 1 ≤ length (now buf) ⌝ }
+    ensures { λ r. ⌜ now (buf .exit) ≡ sets (now (buf .entry)) at (bytesOf 1 x) ⌝ }
+{
+    put(buf, at, 1, x as u64)
+}
+
+pub fn put_u16(buf: &mut [u8], at: usize, x: u16)
+    requires { ⌜ at + 2 ≤ length (now buf) ⌝ }
+    ensures { λ r. ⌜ now (buf .exit) ≡ sets (now (buf .entry)) at (bytesOf 2 x) ⌝ }
+{
+    put(buf, at, 2, x as u64)
+}
+
+pub fn put_u32(buf: &mut [u8], at: usize, x: u32)
+    requires { ⌜ at + 4 ≤ length (now buf) ⌝ }
+    ensures { λ r. ⌜ now (buf .exit) ≡ sets (now (buf .entry)) at (bytesOf 4 x) ⌝ }
+{
+    put(buf, at, 4, x as u64)
+}
+
+pub fn put_u64(buf: &mut [u8], at: usize, x: u64)
+    requires { ⌜ at + 8 ≤ length (now buf) ⌝ }
+    ensures { λ r. ⌜ now (buf .exit) ≡ sets (now (buf .entry)) at (bytesOf 8 x) ⌝ }
+{
+    put(buf, at, 8, x)
+}
