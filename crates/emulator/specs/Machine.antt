@@ -2,11 +2,11 @@
 use Prim.Native.Nat.{ℕ}
 use mathlib.Core.Bool.{Bool, false}
 use mathlib.Core.List.{List, []}
-use lib.ListN.{length, take}
+use lib.ListN.{length}
 use lib.Dec.{leb, eqb}
 use Rattle.answer.specs.Tests.{_and_}
 use Rattle.address.specs.Address.{memoryLimit}
-use Rattle.iommu.specs.Table.{capacity, soundTable}
+use Rattle.iommu.specs.Table.{capacity, soundTable, inUse}
 use Rattle.iommu.specs.declared.Mapping.{Mapping}
 use Rattle.memory.specs.Shadow.{shadowLength}
 use Rattle.memory.specs.Memory.{Memory}
@@ -33,7 +33,7 @@ machineOf s =
     record {
       memoryLength = s .«memory_length»;
       count = s .table .count;
-      mappings = take (s .table .count) (s .table .entries);
+      mappings = inUse (s .table);
       registers = fileOf (s .registers);
       running = s .running;
     }

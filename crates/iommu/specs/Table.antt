@@ -1,14 +1,16 @@
 -- The mapping table, as the list of its entries in use (document 01, "The bench and its neighbours", "Requests", "Moving bytes").
-use Prim.Native.Nat.{ℕ, _+_, _-_, _/_, _%_}
+use Prim.Native.Nat.{ℕ, _+_, _-_, _/_, _%_, _≤_}
 use mathlib.Core.Bool.{Bool, true, false, not}
-use mathlib.Core.List.{List, [], _∷_}
+use mathlib.Core.Path.{_≡_}
+use mathlib.Core.List.{List, [], _∷_, _++_}
 use lib.Dec.{leb, ltb, eqb}
-use lib.ListN.{length}
+use lib.ListN.{length, take, drop}
 use Rattle.answer.specs.Tests.{_and_, _or_, pick}
-use Rattle.address.specs.Address.{memoryOffset, aligned, inDeviceRange, inMemoryRange}
+use Rattle.address.specs.Address.{memoryLimit, memoryOffset, aligned, inDeviceRange, inMemoryRange}
 use Rattle.address.specs.declared.DeviceAddress.{DeviceAddress}
 use Rattle.address.specs.declared.MemoryAddress.{MemoryAddress}
 use Rattle.iommu.specs.declared.Mapping.{Mapping}
+use Rattle.iommu.specs.declared.Table.{Table}
 use Rattle.iommu.specs.declared.Translation.{Translation}
 use Rattle.iommu.specs.declared.Translation.the-variants.{At, Nowhere}
 
@@ -111,3 +113,18 @@ without test (m ∷ ms) = pick (test m) (without test ms) (m ∷ without test ms
 unfoldable pub sizeOf : (Mapping → Bool) → List Mapping → ℕ
 sizeOf test [] = 0
 sizeOf test (m ∷ ms) = pick (test m) (m .size) 0 + sizeOf test ms
+
+-- ---- the code's table
+
+-- "Entries past the count ... mean nothing": the mappings of a table are its entries in use
+unfoldable pub inUse : Table → List Mapping
+inUse t = take (t .count) (t .entries)
+
+-- the table with other mappings in use; entries past the new count keep what they held, which document 01 leaves free
+unfoldable pub holding : List Mapping → Table → Table
+holding ms t = record { entries = ms ++ drop (length ms) (t .entries); count = length ms }
+
+-- what functions below refusal 1 may ask of a table: no sum over its entries in use leaves 64 bits
+pub record Sound (t : Table) : Type 0 where
+  pub few : t .count ≤ capacity
+  pub table : soundTable memoryLimit (inUse t) ≡ true

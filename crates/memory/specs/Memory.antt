@@ -2,7 +2,8 @@
 use Prim.Native.Nat.{ℕ, zero, suc}
 use mathlib.Core.Bool.{Bool, true, false}
 use mathlib.Core.List.{List, [], _∷_}
-use lib.ListN.{length, getD, set, take, drop}
+use lib.ListN.{getD, set}
+use Rattle.wire.specs.Field.{part}
 use Rattle.address.specs.Address.{memoryOffset}
 use Rattle.address.specs.declared.MemoryAddress.{MemoryAddress}
 use Rattle.memory.specs.Shadow.{marked}
@@ -41,4 +42,4 @@ byteAt m a = getD (m .bytes) (a .0) 0
 
 -- the `n` bytes from `a` on
 unfoldable pub bytesFrom : Memory → MemoryAddress → ℕ → List ℕ
-bytesFrom m a n = take n (drop (a .0) (m .bytes))
+bytesFrom m a n = part (m .bytes) (a .0) n

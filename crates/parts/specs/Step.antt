@@ -3,14 +3,14 @@
 use Prim.Native.Nat.{ℕ, _+_, _-_}
 use mathlib.Core.Bool.{Bool}
 use mathlib.Core.List.{List, []}
-use lib.ListN.{length, take, drop}
+use lib.ListN.{length, drop}
 use lib.Dec.{ltb, eqb}
 use Rattle.answer.specs.Tests.{pick}
 use Rattle.answer.specs.Codes.{Truncated, Header}
 use Rattle.answer.specs.Checks.{_then_, _when_, _unless_, _at_}
 use Rattle.answer.specs.declared.Verdict.{Verdict}
 use Rattle.answer.specs.declared.Verdict.the-variants.{Pass, Fail}
-use Rattle.wire.specs.Field.{field}
+use Rattle.wire.specs.Field.{field, part}
 use Rattle.parts.specs.declared.Step.{Step}
 use Rattle.parts.specs.declared.Step.the-variants.{Part, End, Refused}
 
@@ -48,7 +48,7 @@ stepAt s p =
 
 -- "each part's value is handed back as that stretch of the caller's own stream": of the part at `p`, whose next place is `next`
 unfoldable pub valueTo : List ℕ → ℕ → ℕ → List ℕ
-valueTo s p next = take (next - (p + headerSize)) (drop (p + headerSize) s)
+valueTo s p next = part s (p + headerSize) (next - (p + headerSize))
 
 unfoldable pub valueIn : List ℕ → ℕ → Step → List ℕ
 valueIn s p (Part kind flags selector next) = valueTo s p next

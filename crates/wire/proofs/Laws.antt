@@ -1,12 +1,13 @@
 -- Laws of little-endian fields, each proved once over the width.
 use Prim.Native.Nat.{ℕ, zero, suc, _+_, _*_, _-_, _/_, _%_, _^_, _≤_, _<_}
 use native.Mathlib.Nat.{pow-suc, pow-le-pow-right, add-suc, suc-add, add-zero}
+use native.Mathlib.Numerals.{add-one}
 use native.Mathlib.Omega.{arith}
 use mathlib.Core.Path.{_≡_, refl, sym, _∙_, ap}
 use mathlib.Core.List.{List, [], _∷_, _++_}
-use lib.ListN.{length, getD, set, drop, length-set}
-use lib.Seq.{sets, getD-drop, getD-set-other, getD-set-same}
-use Rattle.wire.specs.Field.{field, bytesOf}
+use lib.ListN.{length, getD, set, take, drop, replicate, length-set}
+use lib.Seq.{sets, drop-cons, getD-drop, getD-set-other, getD-set-same}
+use Rattle.wire.specs.Field.{field, bytesOf, part}
 
 -- ---- bounds
 
@@ -95,5 +96,21 @@ pub put-more : (l : List ℕ) (at width i y : ℕ) → i < width
 unfolding bytesOf
 put-more l at width i y h =
     let e : width - i ≡ suc (width - (i + 1)) = omega arith in
+    let f : suc (at + i) ≡ at + (i + 1) = omega arith in
+    rw (e, ← f)
+
+-- ---- loops that copy and fill, the first byte first
+
+pub copy-more : (l src : List ℕ) (to from n i : ℕ) → i < n → from + n ≤ length src
+    → sets l (to + i) (part src (from + i) (n - i)) ≡ sets (set l (to + i) (getD src (from + i) 0)) (to + (i + 1)) (part src (from + (i + 1)) (n - (i + 1)))
+copy-more l src to from n i h room =
+    let e : n - i ≡ suc (n - (i + 1)) = omega arith in
+    let f : suc (to + i) ≡ to + (i + 1) = omega arith in
+    let g : suc (from + i) ≡ from + (i + 1) = omega arith in
+    rw (e, drop-cons src (from + i) 0 (omega arith), ← f, ← g)
+
+pub fill-more : (l : List ℕ) (at n i v : ℕ) → i < n → sets l (at + i) (replicate (n - i) v) ≡ sets (set l (at + i) v) (at + (i + 1)) (replicate (n - (i + 1)) v)
+fill-more l at n i v h =
+    let e : n - i ≡ suc (n - (i + 1)) = omega arith in
     let f : suc (at + i) ≡ at + (i + 1) = omega arith in
     rw (e, ← f)

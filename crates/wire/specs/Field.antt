@@ -1,7 +1,7 @@
 -- Little-endian fields, over any width (document 01: "Numbers are little-endian").
 use Prim.Native.Nat.{ℕ, zero, suc, _+_, _*_, _/_, _%_}
 use mathlib.Core.List.{List, [], _∷_}
-use lib.ListN.{getD}
+use lib.ListN.{getD, take, drop}
 
 -- the number that the `width` bytes from offset `at` on make
 unfoldable pub field : List ℕ → ℕ → ℕ → ℕ
@@ -12,3 +12,7 @@ field bytes at (suc width) = getD bytes at 0 + 256 * field bytes (suc at) width
 unfoldable pub bytesOf : ℕ → ℕ → List ℕ
 bytesOf zero x = []
 bytesOf (suc width) x = x % 256 ∷ bytesOf width (x / 256)
+
+-- the `n` bytes from offset `at` on
+abbrev pub part : List ℕ → ℕ → ℕ → List ℕ
+part bytes at n = take n (drop at bytes)

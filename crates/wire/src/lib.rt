@@ -1,9 +1,9 @@
 // Bytes and little-endian fields of 1, 2, 4 and 8 bytes at a place of a byte slice.
 ghost use mathlib.Core.Path.{_≡_};
 ghost use Prim.Native.Nat.{_+_, _≤_};
-ghost use lib.ListN.{length};
+ghost use lib.ListN.{length, replicate};
 ghost use lib.Seq.{sets};
-ghost use Rattle.wire.specs.Field.{field, bytesOf};
+ghost use Rattle.wire.specs.Field.{field, bytesOf, part};
 
 // The number that the `width` bytes from `at` on make. Each width calls it with a constant, for which the loop is unrolled.
 fn get(s: &[u8], at: usize, width: usize) -> u64
@@ -88,4 +88,28 @@ pub fn put_u64(buf: &mut [u8], at: usize, x: u64)
     ensures { λ r. ⌜ now (buf .exit) ≡ sets (now (buf .entry)) at (bytesOf 8 x) ⌝ }
 {
     put(buf, at, 8, x)
+}
+
+// Copies `n` bytes of `src` from `from` on to `dst` from `to` on. A loop by index, which the compiler vectorises.
+pub fn copy(dst: &mut [u8], to: usize, src: &[u8], from: usize, n: usize)
+    requires { ⌜ (to + n ≤ length (now dst)) × (from + n ≤ length (now src)) ⌝ }
+    ensures { λ r. ⌜ now (dst .exit) ≡ sets (now (dst .entry)) to (part (now (src .entry)) from n) ⌝ }
+{
+    let mut i: usize = 0;
+    while i < n {
+        dst[to + i] = src[from + i];
+        i += 1;
+    }
+}
+
+// Fills `n` bytes of `buf` from `at` on with `v`.
+pub fn fill(buf: &mut [u8], at: usize, n: usize, v: u8)
+    requires { ⌜ at + n ≤ length (now buf) ⌝ }
+    ensures { λ r. ⌜ now (buf .exit) ≡ sets (now (buf .entry)) at (replicate n v) ⌝ }
+{
+    let mut i: usize = 0;
+    while i < n {
+        buf[at + i] = v;
+        i += 1;
+    }
 }
