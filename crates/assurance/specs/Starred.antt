@@ -13,11 +13,7 @@ use Rattle.emulator.specs.Machine.{Emulator, poweredOn}
 use Rattle.emulator.specs.Effect.{Result, value, Outcome, after, filled}
 use Rattle.emulator.specs.Requests.{container, device}
 use Rattle.emulator.specs.Calls.{Call, request, deviceRead, hostWrite, setRegister, loadParts, saveParts, outcome}
-
--- a call, and the buffer lent to it
-pub record Ask : Type 0 where
-  pub call : Call
-  pub buffer : List ℕ
+use Rattle.assurance.specs.Runs.{Ask}
 
 unfoldable pub outcomeTo : Ask → Emulator → Outcome
 outcomeTo q e = outcome (q .call) (q .buffer) e
@@ -52,8 +48,9 @@ pub data AllRight : List Case → Type 0 where
 
 -- ---- buffers
 
-abbrev pub ask : Call → List ℕ → Ask
-ask c buf = record { call = c; buffer = buf }
+infix 5 _lent_
+abbrev pub _lent_ : Call → List ℕ → Ask
+c lent buf = record { call = c; buffer = buf }
 
 -- a byte that nobody filled in
 abbrev pub stale : ℕ → List ℕ
@@ -61,14 +58,14 @@ stale n = replicate n 0xEE
 
 -- a map of `n` bytes of memory from its start on, at device address `d`, for reading and writing
 unfoldable pub mapAt : ℕ → ℕ → Ask
-mapAt d n = ask (request container 113) (bytesOf 4 32 ++ bytesOf 4 3 ++ bytesOf 8 0 ++ bytesOf 8 d ++ bytesOf 8 n)
+mapAt d n = request container 113 lent bytesOf 4 32 ++ bytesOf 4 3 ++ bytesOf 8 0 ++ bytesOf 8 d ++ bytesOf 8 n
 
 -- an unmap request's buffer with `n` in the size field
 unfoldable pub unmapBuffer : ℕ → ℕ → List ℕ
 unmapBuffer d n = bytesOf 4 24 ++ bytesOf 4 0 ++ bytesOf 8 d ++ bytesOf 8 n
 
 unfoldable pub unmapAt : ℕ → ℕ → Ask
-unmapAt d n = ask (request container 114) (unmapBuffer d n)
+unmapAt d n = request container 114 lent unmapBuffer d n
 
 -- "[0, 8192) and [8192, 12288)"
 unfoldable pub twoMappings : List Ask
@@ -99,23 +96,35 @@ answers before q a = record { before = before; ask = q; answer = a; leaves = q .
 
 unfoldable pub cases : List Case
 cases =
+    -- "Region 7: argsz 32 gives .."
     record {
       before = [];
-      ask = ask (request device 108) (bytesOf 4 32 ++ stale 4 ++ bytesOf 4 7 ++ stale 20);
+      ask = request device 108 lent bytesOf 4 32 ++ stale 4 ++ bytesOf 4 7 ++ stale 20;
       answer = gives 0;
       leaves = regionSeven;
     }
-    ∷ record { before = []; ask = ask saveParts (stale 43); answer = gives 41; leaves = offeredPart ++ statusPart ++ stale 2 }
-    ∷ answers [] (ask loadParts []) (refused Missing 0)
-    ∷ answers [] (ask loadParts statusPart) (gives 0)
-    ∷ answers [] (ask loadParts (statusPart ++ statusPart)) (refused Twice 17)
+    -- "Reset card saved: .. 41 bytes."
+    ∷ record { before = []; ask = saveParts lent stale 43; answer = gives 41; leaves = offeredPart ++ statusPart ++ stale 2 }
+    -- "The empty stream: 24 at 0."
+    ∷ answers [] (loadParts lent []) (refused Missing 0)
+    -- "Status part alone: accepted."
+    ∷ answers [] (loadParts lent statusPart) (gives 0)
+    -- "Same status part twice: 21 at 17."
+    ∷ answers [] (loadParts lent statusPart ++ statusPart) (refused Twice 17)
+    -- "Map at 2^48 − 4,096, size 4,096, fresh bench of two pages: accepted."
     ∷ answers [] (mapAt (deviceLimit - page) 4096) (gives 0)
+    -- "Size 8,192: 9."
     ∷ answers [] (mapAt (deviceLimit - page) 8192) (refused Range 0)
+    -- "Mappings [0, 8192) and [8192, 12288): unmap [4096, 12288) is 12"
     ∷ answers twoMappings (unmapAt 4096 8192) (refused Cuts 0)
+    -- "unmap [0, 12288) reports 12,288"
     ∷ record { before = twoMappings; ask = unmapAt 0 12288; answer = gives 0; leaves = unmapBuffer 0 12288 }
+    -- "Size 0 at address 1: 8, not 7."
     ∷ answers [] (mapAt 1 0) (refused Empty 0)
-    ∷ answers [] (ask (setRegister QueueConfig 0) (bytesOf 2 3 ++ replicate 30 0)) (refused Value 0)
-    ∷ answers (mapAt 0 4096 ∷ ask (hostWrite (memoryAddress 0)) (0x5A ∷ []) ∷ []) (ask (deviceRead (deviceAddress 0)) (stale 2)) (refused Unwritten 1)
+    -- "Queue size 3: 22."
+    ∷ answers [] (setRegister QueueConfig 0 lent bytesOf 2 3 ++ replicate 30 0) (refused Value 0)
+    -- "Read of two bytes, the second unwritten: 16 at 1."
+    ∷ answers (mapAt 0 4096 ∷ (hostWrite (memoryAddress 0) lent 0x5A ∷ []) ∷ []) (deviceRead (deviceAddress 0) lent stale 2) (refused Unwritten 1)
     ∷ []
 
 -- The statement: all twelve are right. proofs/Starred.antt has its term.

@@ -1,0 +1,129 @@
+-- Two runs from emulators that are the same. No line here looks into a call: proofs/Blind.antt does.
+use Prim.Native.Nat.{ℕ, zero, suc, _≤_, _<_}
+use native.Mathlib.Omega.{arith}
+use mathlib.Core.Path.{_≡_, refl, sym, _∙_, ap, ap₂}
+use mathlib.Core.Bool.{Bool, true, false}
+use mathlib.Core.List.{List, [], _∷_}
+use lib.ListN.{length, getD, set, length-set}
+use Rattle.address.specs.Address.{memoryAddress}
+use Rattle.address.specs.declared.MemoryAddress.{MemoryAddress}
+use Rattle.memory.specs.Shadow.{initialized, marked}
+use Rattle.memory.specs.Memory.{Memory, Edit, put, clear, edit, edited, byteAt}
+use Rattle.memory.proofs.Shadow.{marked-other, cleared-was}
+use Rattle.emulator.specs.Machine.{Machine, Emulator}
+use Rattle.emulator.specs.Effect.{Effect, Outcome, after}
+use Rattle.emulator.specs.Calls.{input, outcome}
+use Rattle.assurance.specs.Overwrite.{overwrite, mask}
+use Rattle.assurance.specs.Runs.{Ask, Others, Event, written, disturbed, lentTo, event, turn, run, Same, Alike}
+use Rattle.assurance.proofs.Overwrite.{length-overwrite, overwrite-overwrite, getD-kept, mask-eq}
+use Rattle.assurance.proofs.Blind.{seen, blind}
+
+-- ---- the relation of demand 3 is equality of what is seen
+
+emulator-eq : {b c s t : List ℕ} {k l : Machine} → b ≡ c → s ≡ t → k ≡ l
+    → _≡_ {A = Emulator} (record { memory = record { bytes = b; shadow = s }; machine = k }) (record { memory = record { bytes = c; shadow = t }; machine = l })
+emulator-eq p q r = λ i. record { memory = record { bytes = p i; shadow = q i }; machine = r i }
+
+pub same→seen : (e f : Emulator) → Same e f → seen e ≡ seen f
+unfolding seen written byteAt
+same→seen e f s =
+    emulator-eq
+    (mask-eq (written (e .memory)) (e .memory .bytes) (f .memory .bytes) (s .size) (λ a h. s .bytes (memoryAddress a) h)
+    ∙ ap (λ (m : List ℕ). mask (λ a. initialized m (memoryAddress a)) (f .memory .bytes)) (s .shadow))
+    (s .shadow) (s .machine)
+
+pub seen→same : (e f : Emulator) → seen e ≡ seen f → Same e f
+unfolding seen written byteAt mask
+seen→same e f p =
+    let shadow : e .memory .shadow ≡ f .memory .shadow = ap (λ (x : Emulator). x .memory .shadow) p in
+    let bytes : seen e .memory .bytes ≡ seen f .memory .bytes = ap (λ (x : Emulator). x .memory .bytes) p in
+    record {
+      machine = ap (λ (x : Emulator). x .machine) p;
+      shadow = shadow;
+      size = sym (length-overwrite _ _ (e .memory .bytes)) ∙ ap length bytes ∙ length-overwrite _ _ (f .memory .bytes);
+      bytes = λ a h.
+          sym (getD-kept (written (e .memory)) (λ i. 0) (e .memory .bytes) (a .0) h)
+          ∙ ap (λ (l : List ℕ). getD l (a .0) 0) bytes
+          ∙ getD-kept (written (f .memory)) (λ i. 0) (f .memory .bytes) (a .0) (ap (λ (m : List ℕ). initialized m a) (sym shadow) ∙ h);
+    }
+
+-- ---- others change nothing that is seen
+
+pub seen-disturbed : (w : Others) (e : Emulator) → seen (disturbed w e) ≡ seen e
+unfolding seen mask disturbed written
+seen-disturbed w e = emulator-eq (overwrite-overwrite (written (e .memory)) (λ i. 0) (w .memory) (e .memory .bytes)) refl refl
+
+pub mask-lent : (w : Others) (q : Ask) → mask (input (q .call)) (lentTo w q) ≡ mask (input (q .call)) (q .buffer)
+unfolding mask lentTo
+mask-lent w q = overwrite-overwrite (input (q .call)) (λ i. 0) (w .buffer) (q .buffer)
+
+-- ---- what is seen after an edit goes by what was seen before it
+
+-- lists of one length that agree at `k`, but perhaps where it is `a`, agree at `k` once the same is stored at `a`
+set-agree : (l m : List ℕ) (a x k : ℕ) → length l ≡ length m → ((k ≡ a → ⊥) → getD l k 0 ≡ getD m k 0) → getD (set l a x) k 0 ≡ getD (set m a x) k 0
+set-agree [] [] a x k e h = refl
+set-agree [] (z ∷ m) a x k e h = absurd (omega arith)
+set-agree (y ∷ l) [] a x k e h = absurd (omega arith)
+set-agree (y ∷ l) (z ∷ m) zero x zero e h = refl
+set-agree (y ∷ l) (z ∷ m) zero x (suc k) e h = h (λ n. omega arith)
+set-agree (y ∷ l) (z ∷ m) (suc a) x zero e h = h (λ n. omega arith)
+set-agree (y ∷ l) (z ∷ m) (suc a) x (suc k) e h = set-agree l m a x k (omega arith) (λ n. h (λ z. n (omega arith)))
+
+-- memory as a call may look at it
+seenMemory : Memory → Memory
+seenMemory m = record { bytes = mask (written m) (m .bytes); shadow = m .shadow }
+
+memory-eq : {b c s t : List ℕ} → b ≡ c → s ≡ t → _≡_ {A = Memory} (record { bytes = b; shadow = s }) (record { bytes = c; shadow = t })
+memory-eq p q = λ i. record { bytes = p i; shadow = q i }
+
+seen-edit : (d : Edit) (m : Memory) → seenMemory (edit d m) ≡ seenMemory (edit d (seenMemory m))
+unfolding seenMemory mask edit written
+seen-edit (put a x) m =
+    let p : ℕ → Bool = written m in
+    let low : List ℕ = overwrite p (λ i. 0) (m .bytes) in
+    memory-eq
+    (mask-eq (λ k. initialized (marked (m .shadow) a true) (memoryAddress k)) (set (m .bytes) (a .0) x) (set low (a .0) x)
+    (length-set (m .bytes) (a .0) x ∙ sym (length-overwrite p (λ i. 0) (m .bytes)) ∙ sym (length-set low (a .0) x))
+    (λ k h. set-agree (m .bytes) low (a .0) x k (sym (length-overwrite p (λ i. 0) (m .bytes)))
+    (λ n. sym (getD-kept p (λ i. 0) (m .bytes) k (sym (marked-other (m .shadow) a (memoryAddress k) true n) ∙ h)))))
+    refl
+seen-edit (clear a) m =
+    let p : ℕ → Bool = written m in
+    memory-eq
+    (mask-eq (λ k. initialized (marked (m .shadow) a false) (memoryAddress k)) (m .bytes) (overwrite p (λ i. 0) (m .bytes)) (sym (length-overwrite p (λ i. 0) (m .bytes)))
+    (λ k h. sym (getD-kept p (λ i. 0) (m .bytes) k (cleared-was (m .shadow) a (memoryAddress k) h))))
+    refl
+
+seen-edited : (ds : List Edit) (m n : Memory) → seenMemory m ≡ seenMemory n → seenMemory (edited ds m) ≡ seenMemory (edited ds n)
+unfolding edited
+seen-edited [] m n h = h
+seen-edited (d ∷ ds) m n h =
+    seen-edited ds (edit d m) (edit d n) (seen-edit d m ∙ ap (λ (x : Memory). seenMemory (edit d x)) h ∙ sym (seen-edit d n))
+
+seen-after : (o : Effect) (e f : Emulator) → seen e ≡ seen f → seen (after o e) ≡ seen (after o f)
+unfolding after seen seenMemory
+seen-after o e f h =
+    ap (λ (m : Memory). record { memory = m; machine = o .machine }) (seen-edited (o .edits) (e .memory) (f .memory) (ap (λ (x : Emulator). x .memory) h))
+
+-- ---- runs
+
+same-outcome : (w v : Others) (q : Ask) (e f : Emulator) → seen e ≡ seen f → outcome (q .call) (lentTo w q) e ≡ outcome (q .call) (lentTo v q) f
+same-outcome w v q e f h =
+    sym (blind (q .call) (lentTo w q) e)
+    ∙ ap₂ (outcome (q .call)) (mask-lent w q ∙ sym (mask-lent v q)) h
+    ∙ blind (q .call) (lentTo v q) f
+
+alike : (e f : Emulator) → seen e ≡ seen f → (qs : List Ask) (w v : ℕ → Others) → Alike (run e qs w) (run f qs v)
+unfolding run Alike turn event
+alike e f h [] w v = tt
+alike e f h (q ∷ qs) w v =
+    let e′ : Emulator = disturbed (w 0) e in
+    let f′ : Emulator = disturbed (v 0) f in
+    let h′ : seen e′ ≡ seen f′ = seen-disturbed (w 0) e ∙ h ∙ sym (seen-disturbed (v 0) f) in
+    let o : outcome (q .call) (lentTo (w 0) q) e′ ≡ outcome (q .call) (lentTo (v 0) q) f′ = same-outcome (w 0) (v 0) q e′ f′ h′ in
+    let left : seen (after (outcome (q .call) (lentTo (w 0) q) e′ .effect) e′) ≡ seen (after (outcome (q .call) (lentTo (v 0) q) f′ .effect) f′) =
+    ap (λ (x : Outcome). seen (after (x .effect) e′)) o ∙ seen-after (outcome (q .call) (lentTo (v 0) q) f′ .effect) e′ f′ h′ in
+    (o, seen→same _ _ left, alike _ _ left qs (λ n. w (suc n)) (λ n. v (suc n)))
+
+pub agreement : (e f : Emulator) → Same e f → (qs : List Ask) (w v : ℕ → Others) → Alike (run e qs w) (run f qs v)
+agreement e f s = alike e f (same→seen e f s)

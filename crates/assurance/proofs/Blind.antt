@@ -1,0 +1,257 @@
+-- No call looks at a stale byte of its buffer or at unwritten memory: its outcome is the one with those bytes masked.
+use Prim.Native.Nat.{ℕ, zero, suc, _+_, _≤_, _<_}
+use native.Mathlib.Nat.{add-zero, add-suc, suc-add}
+use native.Mathlib.Numerals.{add-one}
+use native.Mathlib.Omega.{arith}
+use mathlib.Core.Path.{_≡_, refl, sym, _∙_, ap, ap₂}
+use mathlib.Core.Bool.{Bool, true, false}
+use mathlib.Core.List.{List, [], _∷_}
+use mathlib.Core.Option.{Option, none, some}
+use lib.ListN.{length}
+use lib.Dec.{eqb}
+use borrow.Author.Tests.{leb-true}
+use Rattle.answer.specs.Tests.{_and_, _or_, pick}
+use Rattle.answer.specs.Checks.{_then_, firstFault}
+use Rattle.answer.specs.Answer.{settle}
+use Rattle.answer.specs.declared.Verdict.{Verdict}
+use Rattle.answer.specs.declared.Verdict.the-variants.{Pass, Fail}
+use Rattle.answer.proofs.Tests.{and-true}
+use Rattle.answer.proofs.Checks.{never, then-pass, unless-pass, firstFault-all}
+use Rattle.address.specs.Address.{memoryAddress, deviceOffset, memoryOffset, inMemoryRange}
+use Rattle.address.specs.declared.DeviceAddress.{DeviceAddress}
+use Rattle.address.specs.declared.MemoryAddress.{MemoryAddress}
+use Rattle.wire.specs.Field.{field, part}
+use Rattle.iommu.specs.Table.{translate}
+use Rattle.iommu.specs.declared.Mapping.{Mapping}
+use Rattle.iommu.specs.declared.Translation.{Translation}
+use Rattle.iommu.specs.declared.Translation.the-variants.{At, Nowhere}
+use Rattle.memory.specs.Shadow.{initialized}
+use Rattle.memory.specs.Memory.{Memory, byteAt, bytesFrom}
+use Rattle.memory.specs.Transfers.{unwrittenAt, hostReadChecks}
+use Rattle.dma.specs.Transfers.{readFault, transferChecks, deviceReadChecks, location, gather}
+use Rattle.emulator.specs.Machine.{Machine, Emulator, Given, memoryAlone, stateAlone, both, usable, lendable, asNoted}
+use Rattle.emulator.specs.Effect.{Effect, Outcome, effectOf, outcomeOf, writing}
+use Rattle.emulator.specs.Requests.{Request, getApiVersion, checkExtension, getIommuInfo, mapDma, unmapDma, getInfo, getRegionInfo, getIrqInfo, resetDevice, Entry, requests, entryIn, identify, inFields, inputOf, requestedMapping, requestedStart, requestedSize, requestedIndex, argszChecks, listedChecks, requestChecks, listedEffect, requestEffect}
+use Rattle.emulator.specs.Calls.{Call, powerOn, request, lookUp, deviceRead, deviceWrite, hostWrite, hostRead, invalidate, setRegister, readRegister, loadParts, saveParts, stop, start, given, input, ownChecks, checks, front, effect, outcome}
+use Rattle.assurance.specs.Overwrite.{overwrite, mask}
+use Rattle.assurance.specs.Runs.{written}
+use Rattle.assurance.proofs.Overwrite.{length-overwrite, length-mask, mask-all, getD-kept, part-kept, keeps, field-kept}
+
+-- the emulator as a call may look at it: no unwritten byte is seen
+unfoldable pub seen : Emulator → Emulator
+seen e =
+    record { memory = record { bytes = mask (written (e .memory)) (e .memory .bytes); shadow = e .memory .shadow }; machine = e .machine }
+
+-- a refused call has no effect, so effects need only agree where the checks pass
+outcome-eq : (u v : Verdict) (e f : Effect) (k : Machine) → u ≡ v → (u ≡ Pass → e ≡ f) → outcomeOf u e k ≡ outcomeOf v f k
+unfolding outcomeOf effectOf settle
+outcome-eq u v e f k p h = go u refl ∙ ap (λ (x : Verdict). outcomeOf x f k) p
+  where
+    go : (t : Verdict) → u ≡ t → outcomeOf t e k ≡ outcomeOf t f k
+    go Pass q = ap (λ (x : Effect). outcomeOf Pass x k) (h q)
+    go (Fail code place) q = refl
+
+-- ---- refusal 1 goes by lengths, marks and state
+
+usable-blind : (g : Given) (e : Emulator) → usable g (seen e) ≡ usable g e
+unfolding usable lendable asNoted seen
+usable-blind memoryAlone e = simp length-mask
+usable-blind stateAlone e = refl
+usable-blind both e = simp length-mask
+
+-- ---- requests read their input fields alone
+
+-- the fields that a request looks at are kept
+unfoldable readsKept : (ℕ → Bool) → Request → Bool
+readsKept keep getApiVersion = true
+readsKept keep checkExtension = keeps keep 0 4
+readsKept keep getIommuInfo = true
+readsKept keep mapDma = keeps keep 4 4 and keeps keep 8 8 and keeps keep 16 8 and keeps keep 24 8
+readsKept keep unmapDma = keeps keep 4 4 and keeps keep 8 8 and keeps keep 16 8
+readsKept keep getInfo = true
+readsKept keep getRegionInfo = keeps keep 8 4
+readsKept keep getIrqInfo = keeps keep 8 4
+readsKept keep resetDevice = true
+
+-- argsz and the fields of its request are input fields of an entry
+unfoldable entryReads : Entry → Bool
+entryReads r = pick (r .argsz) (keeps (inFields (r .input)) 0 4) true and readsKept (inFields (r .input)) (r .request)
+
+unfoldable allRead : List Entry → Bool
+allRead [] = true
+allRead (r ∷ rs) = entryReads r and allRead rs
+
+all-read : allRead requests ≡ true
+unfolding allRead entryReads readsKept keeps inFields pick _and_ _or_
+all-read = refl
+
+module _ (keep : ℕ → Bool) (buf : List ℕ) (e : Emulator) where
+  mapping-blind : readsKept keep mapDma ≡ true → requestedMapping (mask keep buf) ≡ requestedMapping buf
+  unfolding readsKept requestedMapping
+  mapping-blind h =
+      let a = and-true _ _ h in
+      let b = and-true _ _ (a .0) in
+      let c = and-true _ _ (b .0) in
+      rw (field-kept keep buf 4 4 (c .0), field-kept keep buf 8 8 (c .1), field-kept keep buf 16 8 (b .1), field-kept keep buf 24 8 (a .1))
+
+  listed-checks-blind : (q : Request) → readsKept keep q ≡ true → listedChecks q (mask keep buf) (seen e) ≡ listedChecks q buf e
+  unfolding readsKept listedChecks requestedStart requestedSize requestedIndex seen
+  listed-checks-blind getApiVersion h = refl
+  listed-checks-blind checkExtension h = refl
+  listed-checks-blind getIommuInfo h = refl
+  listed-checks-blind mapDma h = rw (length-mask (written (e .memory)) (e .memory .bytes), mapping-blind h)
+  listed-checks-blind unmapDma h =
+      let a = and-true _ _ h in
+      let b = and-true _ _ (a .0) in
+      rw (field-kept keep buf 4 4 (b .0), field-kept keep buf 8 8 (b .1), field-kept keep buf 16 8 (a .1))
+  listed-checks-blind getInfo h = refl
+  listed-checks-blind getRegionInfo h = rw (field-kept keep buf 8 4 h)
+  listed-checks-blind getIrqInfo h = rw (field-kept keep buf 8 4 h)
+  listed-checks-blind resetDevice h = refl
+
+  listed-effect-blind : (q : Request) → readsKept keep q ≡ true → listedEffect q (mask keep buf) (seen e) ≡ listedEffect q buf e
+  unfolding readsKept listedEffect requestedStart requestedSize requestedIndex seen
+  listed-effect-blind getApiVersion h = refl
+  listed-effect-blind checkExtension h = rw (field-kept keep buf 0 4 h)
+  listed-effect-blind getIommuInfo h = refl
+  listed-effect-blind mapDma h = rw (mapping-blind h)
+  listed-effect-blind unmapDma h =
+      let a = and-true _ _ h in
+      let b = and-true _ _ (a .0) in
+      rw (field-kept keep buf 8 8 (b .1), field-kept keep buf 16 8 (a .1))
+  listed-effect-blind getInfo h = refl
+  listed-effect-blind getRegionInfo h = rw (field-kept keep buf 8 4 h)
+  listed-effect-blind getIrqInfo h = rw (field-kept keep buf 8 4 h)
+  listed-effect-blind resetDevice h = refl
+
+  argsz-blind : (t : Bool) (size : ℕ) → pick t (keeps keep 0 4) true ≡ true → argszChecks t size (mask keep buf) ≡ argszChecks t size buf
+  unfolding argszChecks pick
+  argsz-blind false size h = refl
+  argsz-blind true size h = rw (field-kept keep buf 0 4 h, length-mask keep buf)
+
+-- what holds of no entry, and of each that reads its input fields alone, holds of the entry that a target and a number have
+entry-by : (P : Option Entry → Type 0) → P none → ((r : Entry) → entryReads r ≡ true → P (some r)) → (rs : List Entry) → allRead rs ≡ true
+    → (target number : ℕ) → P (entryIn rs target number)
+unfolding entryIn allRead pick
+entry-by P p h [] all target number = p
+entry-by P p h (r ∷ rs) all target number =
+    let a = and-true _ _ all in
+    go (eqb (r .target) target and eqb (r .number) number) (h r (a .0)) (entry-by P p h rs (a .1) target number)
+  where
+    go : (t : Bool) → P (some r) → P (entryIn rs target number) → P (pick t (some r) (entryIn rs target number))
+    go true here rest = here
+    go false here rest = rest
+
+-- a request's checks and effect, both
+record RequestBlind (buf : List ℕ) (e : Emulator) (o : Option Entry) : Type 0 where
+  its-checks : requestChecks o (mask (inputOf o) buf) (seen e) ≡ requestChecks o buf e
+  its-effect : requestEffect o (mask (inputOf o) buf) (seen e) ≡ requestEffect o buf e
+
+request-blind : (buf : List ℕ) (e : Emulator) (target number : ℕ) → RequestBlind buf e (identify target number)
+unfolding identify requestChecks requestEffect seen inputOf entryReads
+request-blind buf e = entry-by (RequestBlind buf e) absent listed requests all-read
+  where
+    absent : RequestBlind buf e none
+    absent = record { its-checks = refl; its-effect = refl }
+
+    listed : (r : Entry) → entryReads r ≡ true → RequestBlind buf e (some r)
+    listed r h =
+        let a = and-true _ _ h in
+        let keep : ℕ → Bool = inFields (r .input) in
+        record {
+          its-checks = rw (length-mask keep buf, argsz-blind keep buf e (r .argsz) (r .size) (a .0), listed-checks-blind keep buf e (r .request) (a .1));
+          its-effect = listed-effect-blind keep buf e (r .request) (a .1);
+        }
+
+-- ---- the checks of every call
+
+own-checks-blind : (c : Call) (buf : List ℕ) (e : Emulator) → ownChecks c (mask (input c) buf) (seen e) ≡ ownChecks c buf e
+unfolding ownChecks seen input
+own-checks-blind powerOn buf e = refl
+own-checks-blind (request target number) buf e = request-blind buf e target number .its-checks
+own-checks-blind (lookUp d) buf e = refl
+own-checks-blind (deviceRead d) buf e = simp length-mask
+own-checks-blind (deviceWrite d) buf e = simp length-mask
+own-checks-blind (hostWrite a) buf e = simp length-mask
+own-checks-blind (hostRead a) buf e = simp length-mask
+own-checks-blind (invalidate a n) buf e = simp length-mask
+own-checks-blind (setRegister kind selector) buf e = simp mask-all
+own-checks-blind (readRegister kind selector) buf e = simp length-mask
+own-checks-blind loadParts buf e = simp mask-all
+own-checks-blind saveParts buf e = simp length-mask
+own-checks-blind stop buf e = refl
+own-checks-blind start buf e = refl
+
+checks-blind : (c : Call) (buf : List ℕ) (e : Emulator) → checks c (mask (input c) buf) (seen e) ≡ checks c buf e
+unfolding checks
+checks-blind c buf e = rw (usable-blind (given c) e, own-checks-blind c buf e)
+
+-- ---- the effects of accepted calls
+
+pub unwritten-clear : (shadow : List ℕ) (a : MemoryAddress) → unwrittenAt shadow a ≡ Pass → initialized shadow a ≡ true
+unfolding unwrittenAt
+unwritten-clear shadow a h = unless-pass _ _ h
+
+-- a device address that may be read shows a written byte
+pub read-clear : (shadow : List ℕ) (t : Translation) → readFault shadow t ≡ Pass → initialized shadow (location t) ≡ true
+unfolding readFault location
+read-clear shadow Nowhere h = never _ _ h
+read-clear shadow (At a rights) h = unwritten-clear shadow a (then-pass _ _ h .1)
+
+byte-blind : (e : Emulator) (a : MemoryAddress) → initialized (e .memory .shadow) a ≡ true → byteAt (seen e .memory) a ≡ byteAt (e .memory) a
+unfolding byteAt seen mask written
+byte-blind e a h = getD-kept (written (e .memory)) (λ i. 0) (e .memory .bytes) (a .0) h
+
+-- what the next offset says of the next address
+pub shift : (P : DeviceAddress → Type 0) (d : DeviceAddress) (n : ℕ) → ((i : ℕ) → i < suc n → P (deviceOffset d i)) → (i : ℕ) → i < n → P (deviceOffset (deviceOffset d 1) i)
+shift P d n h i lt = let e : d .0 + suc i ≡ d .0 + 1 + i = omega arith in rw e at (h (suc i) (omega arith))
+
+pub first : (P : DeviceAddress → Type 0) (d : DeviceAddress) (n : ℕ) → ((i : ℕ) → i < suc n → P (deviceOffset d i)) → P d
+first P d n h = rw add-zero at (h 0 (omega arith))
+
+gather-blind : (ms : List Mapping) (e : Emulator) (n : ℕ) (d : DeviceAddress) → ((i : ℕ) → i < n → readFault (e .memory .shadow) (translate ms (deviceOffset d i)) ≡ Pass)
+    → gather ms (seen e .memory) d n ≡ gather ms (e .memory) d n
+unfolding gather
+gather-blind ms e zero d h = refl
+gather-blind ms e (suc n) d h =
+    let P : DeviceAddress → Type 0 = λ x. readFault (e .memory .shadow) (translate ms x) ≡ Pass in
+    ap₂ _∷_ (byte-blind e _ (read-clear _ _ (first P d n h))) (gather-blind ms e n (deviceOffset d 1) (shift P d n h))
+
+-- what passed checks say of every offset
+pub host-read-passed : (size : ℕ) (shadow : List ℕ) (a : MemoryAddress) (n : ℕ) → hostReadChecks size shadow a n ≡ Pass
+    → (a .0 + n ≤ size) × ((i : ℕ) → i < n → initialized shadow (memoryOffset a i) ≡ true)
+unfolding hostReadChecks inMemoryRange
+host-read-passed size shadow a n h =
+    let t = then-pass _ _ (then-pass _ _ h .1) in
+    (leb-true _ _ (unless-pass _ _ (t .0)), λ i lt. unwritten-clear shadow (memoryOffset a i) (firstFault-all _ n (t .1) i lt))
+
+pub transfer-passed : (fault : Translation → Verdict) (ms : List Mapping) (d : DeviceAddress) (n : ℕ) → transferChecks fault ms d n ≡ Pass
+    → (i : ℕ) → i < n → fault (translate ms (deviceOffset d i)) ≡ Pass
+unfolding transferChecks
+transfer-passed fault ms d n h = firstFault-all _ n (then-pass _ _ (then-pass _ _ h .1) .1)
+
+effect-blind : (c : Call) (buf : List ℕ) (e : Emulator) → ownChecks c buf e ≡ Pass → effect c (mask (input c) buf) (seen e) ≡ effect c buf e
+unfolding effect ownChecks seen input deviceReadChecks bytesFrom written mask
+effect-blind powerOn buf e ok = simp length-mask
+effect-blind (request target number) buf e ok = request-blind buf e target number .its-effect
+effect-blind (lookUp d) buf e ok = refl
+effect-blind (deviceRead d) buf e ok =
+    rw (length-mask (input (deviceRead d)) buf, gather-blind (e .machine .mappings) e (length buf) d (transfer-passed _ _ d (length buf) ok))
+effect-blind (deviceWrite d) buf e ok = simp mask-all
+effect-blind (hostWrite a) buf e ok = simp mask-all
+effect-blind (hostRead a) buf e ok =
+    let h = host-read-passed _ _ a (length buf) ok in
+    rw (length-mask (input (hostRead a)) buf, part-kept (written (e .memory)) (λ i. 0) (e .memory .bytes) (a .0) (length buf) (h .0) (h .1))
+effect-blind (invalidate a n) buf e ok = refl
+effect-blind (setRegister kind selector) buf e ok = simp mask-all
+effect-blind (readRegister kind selector) buf e ok = refl
+effect-blind loadParts buf e ok = simp mask-all
+effect-blind saveParts buf e ok = refl
+effect-blind stop buf e ok = refl
+effect-blind start buf e ok = refl
+
+pub blind : (c : Call) (buf : List ℕ) (e : Emulator) → outcome c (mask (input c) buf) (seen e) ≡ outcome c buf e
+unfolding outcome checks seen
+blind c buf e =
+    outcome-eq _ _ _ _ (e .machine) (checks-blind c buf e)
+    (λ ok. effect-blind c buf e (then-pass _ _ (sym (checks-blind c buf e) ∙ ok) .1))
