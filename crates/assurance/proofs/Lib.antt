@@ -5,3 +5,4 @@ pub mod Books
 pub mod Following
 pub mod Demand3
 pub mod Starred
+pub mod Examples
