@@ -38,9 +38,9 @@ machineOf s =
       running = s .running;
     }
 
--- the emulator that lent bytes and marks make with the code's state
-unfoldable pub emulatorOf : State → List ℕ → List ℕ → Emulator
-emulatorOf s bytes shadow = record { memory = record { bytes = bytes; shadow = shadow }; machine = machineOf s }
+-- the emulator that lent memory makes with the code's state
+unfoldable pub emulatorOf : State → Memory → Emulator
+emulatorOf s m = record { memory = m; machine = machineOf s }
 
 -- ---- soundness, in named pieces
 

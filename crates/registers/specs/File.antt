@@ -1,7 +1,7 @@
 -- The register file: for each register that is kept its value, or none where it is not set.
 use Prim.Native.Nat.{ℕ, zero, suc, _-_}
 use mathlib.Core.Bool.{Bool, true, false}
-use mathlib.Core.List.{List, [], _∷_, _++_}
+use mathlib.Core.List.{List, [], _∷_, _++_, map}
 use mathlib.Core.Option.{Option, none, some}
 use lib.ListN.{length, getD, set, take, replicate}
 use Rattle.answer.specs.Tests.{_and_, pick, isSome}
@@ -64,3 +64,7 @@ fileOf registers = fileFrom 1 (registers .slots)
 unfoldable pub registerOf : Option (List ℕ) → Register
 registerOf none = record { set = false; bytes = replicate 32 0 }
 registerOf (some v) = record { set = true; bytes = v ++ replicate (32 - length v) 0 }
+
+-- the registers that code writes for a file
+unfoldable pub slotsOf : File → List Register
+slotsOf file = map registerOf file
