@@ -2,10 +2,10 @@
 use Prim.Native.Nat.{ℕ, zero, suc, _<_}
 use native.Mathlib.Nat.{not-suc-le-zero}
 use native.Mathlib.Omega.{arith}
-use mathlib.Core.Path.{_≡_, refl, sym}
-use mathlib.Core.Bool.{Bool, true, false, false≢true, true≢false}
+use mathlib.Core.Path.{_≡_, refl, sym, _∙_}
+use mathlib.Core.Bool.{Bool, true, false, not, false≢true, true≢false}
 use lib.Dec.{eqb}
-use borrow.Author.Tests.{eqb-true, eqb-false}
+use borrow.Author.Tests.{eqb-true, eqb-false, not-true, not-false}
 use Rattle.answer.specs.Tests.{_and_, _or_, pick}
 
 pub and-true : (s t : Bool) → (s and t) ≡ true → (s ≡ true) × (t ≡ true)
@@ -20,6 +20,15 @@ and-made s t p q = rw (p, q)
 pub and-false : (s t : Bool) → s ≡ false → (s and t) ≡ false
 unfolding _and_
 and-false s t p = rw p
+
+-- the code's `s && t`: the second test decides where the first holds
+pub and-second : {s t r : Bool} → s ≡ true → r ≡ t → r ≡ (s and t)
+unfolding _and_
+and-second p q = rw (p, q)
+
+pub and-first : {s r : Bool} (t : Bool) → s ≡ false → r ≡ s → r ≡ (s and t)
+unfolding _and_
+and-first t p q = rw (q, p)
 
 pub or-false : (s t : Bool) → (s or t) ≡ false → (s ≡ false) × (t ≡ false)
 unfolding _or_
@@ -46,6 +55,19 @@ pick-false t a b h = rw h
 pub is-false : (t : Bool) → (t ≡ true → ⊥) → t ≡ false
 is-false true h = absurd (h refl)
 is-false false h = refl
+
+-- two tests of which each follows from the other
+pub same-test : (s t : Bool) → (s ≡ true → t ≡ true) → (t ≡ true → s ≡ true) → s ≡ t
+same-test true t h g = sym (h refl)
+same-test false true h g = g refl
+same-test false false h g = refl
+
+-- what the code's `if !r` tells of the definition that `r` is the result of
+pub found-false : {r t : Bool} → r ≡ t → not r ≡ true → t ≡ false
+found-false {r} e h = sym e ∙ not-true r h
+
+pub found-true : {r t : Bool} → r ≡ t → not r ≡ false → t ≡ true
+found-true {r} e h = sym e ∙ not-false r h
 
 -- ---- rules that antt computes for each number below a bound
 
