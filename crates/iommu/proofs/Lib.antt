@@ -1,1 +1,5 @@
+pub mod Soundness
 pub mod Find
+pub mod Passes
+pub mod Lookup
+pub mod Places

@@ -1,0 +1,87 @@
+-- Soundness as facts, of one mapping and of a list of them.
+use Prim.Native.Nat.{ℕ, zero, suc, _+_, _≤_, _<_}
+use native.Mathlib.Nat.{not-suc-le-zero, le-of-suc-le-suc}
+use native.Mathlib.Omega.{arith}
+use mathlib.Core.Path.{_≡_, refl}
+use mathlib.Core.Bool.{Bool, true, false}
+use mathlib.Core.List.{List, [], _∷_}
+use lib.Dec.{leb}
+use lib.ListN.{length, getD}
+use borrow.Author.Tests.{leb-true, ltb-true, le-leb, lt-ltb}
+use Rattle.answer.specs.Tests.{_and_, pick}
+use Rattle.answer.proofs.Tests.{and-true, and-made}
+use Rattle.address.specs.Address.{deviceLimit, memoryLimit, memoryOffset, inDeviceRange, inMemoryRange}
+use Rattle.iommu.specs.declared.Mapping.{Mapping}
+use Rattle.iommu.specs.declared.Table.{Table}
+use Rattle.iommu.specs.Table.{capacity, end, validRights, alignedMapping, inRange, soundMapping, soundFrom, soundTable, sizeOf, inUse, Sound}
+
+-- ---- one mapping
+
+pub record Facts (size : ℕ) (m : Mapping) : Type 0 where
+  pub aligned : alignedMapping m ≡ true
+  pub filled : 0 < m .size
+  pub some : 1 ≤ m .rights
+  pub few : m .rights ≤ 3
+  pub below : end m ≤ deviceLimit
+  pub within : m .memory .0 + m .size ≤ size
+
+pub mapping-facts : (size : ℕ) (m : Mapping) → soundMapping size m ≡ true → Facts size m
+unfolding soundMapping validRights inRange inDeviceRange inMemoryRange
+mapping-facts size m e =
+    let p = and-true _ _ e in
+    let q = and-true _ _ (p .0) in
+    let r = and-true _ _ (q .0) in
+    let rights = and-true _ _ (q .1) in
+    let range = and-true _ _ (p .1) in
+    record {
+      aligned = r .0;
+      filled = ltb-true _ _ (r .1);
+      some = leb-true _ _ (rights .0);
+      few = leb-true _ _ (rights .1);
+      below = leb-true _ _ (range .0);
+      within = leb-true _ _ (range .1);
+    }
+
+pub facts-mapping : (size : ℕ) (m : Mapping) → Facts size m → soundMapping size m ≡ true
+unfolding soundMapping validRights inRange inDeviceRange inMemoryRange
+facts-mapping size m f =
+    and-made _ _ (and-made _ _ (and-made _ _ (f .aligned) (lt-ltb _ _ (f .filled))) (and-made _ _ (le-leb _ _ (f .some)) (le-leb _ _ (f .few))))
+    (and-made _ _ (le-leb _ _ (f .below)) (le-leb _ _ (f .within)))
+
+-- ---- a list of mappings
+
+pub sound-split : (size low : ℕ) (m : Mapping) (ms : List Mapping) → soundFrom size low (m ∷ ms) ≡ true
+    → (low ≤ m .device .0) × (soundMapping size m ≡ true) × (soundFrom size (end m) ms ≡ true)
+unfolding soundFrom
+sound-split size low m ms e =
+    let p = and-true _ _ e in
+    let q = and-true _ _ (p .0) in
+    (leb-true _ _ (q .0), q .1, p .1)
+
+pub sound-join : (size low : ℕ) (m : Mapping) (ms : List Mapping) → low ≤ m .device .0 → soundMapping size m ≡ true → soundFrom size (end m) ms ≡ true
+    → soundFrom size low (m ∷ ms) ≡ true
+unfolding soundFrom
+sound-join size low m ms p q r = and-made _ _ (and-made _ _ (le-leb _ _ p) q) r
+
+-- what is sound stays so where it may begin lower, and in a longer memory
+pub sound-wider : (size size′ low low′ : ℕ) (ms : List Mapping) → size ≤ size′ → low′ ≤ low → soundFrom size low ms ≡ true → soundFrom size′ low′ ms ≡ true
+sound-wider size size′ low low′ [] longer lower e = unfold soundFrom in refl
+sound-wider size size′ low low′ (m ∷ ms) longer lower e =
+    let p = sound-split size low m ms e in
+    let f = mapping-facts size m (p .1) in
+    sound-join size′ low′ m ms (omega arith)
+    (facts-mapping size′ m (record { aligned = f .aligned; filled = f .filled; some = f .some; few = f .few; below = f .below; within = omega arith }))
+    (sound-wider size size′ (end m) (end m) ms longer (omega arith) (p .2))
+
+-- the table is sound for every function below, where it is sound for a memory of the given length
+pub sound-table : (t : Table) (size : ℕ) → (leb (t .count) capacity and soundTable size (inUse t)) ≡ true → size ≤ memoryLimit → Sound t
+unfolding soundTable
+sound-table t size e h =
+    let p = and-true _ _ e in
+    record { few = leb-true _ _ (p .0); table = sound-wider size memoryLimit 0 0 (inUse t) h (omega arith) (p .1) }
+
+-- each of its mappings is sound
+pub sound-at : (size low : ℕ) (ms : List Mapping) (i : ℕ) (none : Mapping) → soundFrom size low ms ≡ true → i < length ms → Facts size (getD ms i none)
+sound-at size low [] i none e h = absurd (not-suc-le-zero h)
+sound-at size low (m ∷ ms) zero none e h = mapping-facts size m (sound-split size low m ms e .1)
+sound-at size low (m ∷ ms) (suc i) none e h = sound-at size (end m) ms i none (sound-split size low m ms e .2) (le-of-suc-le-suc h)
