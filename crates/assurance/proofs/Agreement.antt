@@ -9,7 +9,7 @@ use Rattle.address.specs.Address.{memoryAddress}
 use Rattle.address.specs.declared.MemoryAddress.{MemoryAddress}
 use Rattle.memory.specs.Shadow.{initialized, marked}
 use Rattle.memory.specs.Memory.{Memory, Edit, put, clear, edit, edited, byteAt}
-use Rattle.memory.proofs.Shadow.{marked-other, cleared-was}
+use Rattle.memory.proofs.Marks.{marked-other, cleared-was}
 use Rattle.emulator.specs.Machine.{Machine, Emulator}
 use Rattle.emulator.specs.Effect.{Effect, Outcome, after}
 use Rattle.emulator.specs.Calls.{input, outcome}

@@ -22,7 +22,7 @@ use Rattle.iommu.specs.declared.Translation.{Translation}
 use Rattle.iommu.specs.declared.Translation.the-variants.{At, Nowhere}
 use Rattle.memory.specs.Shadow.{initialized, marked}
 use Rattle.memory.specs.Memory.{Memory, Edit, put, clear, edit, edited, stores, clears, byteAt}
-use Rattle.memory.proofs.Shadow.{marked-length, marked-other, cleared-off, cleared-was, initialized-below}
+use Rattle.memory.proofs.Marks.{marked-length, marked-other, cleared-off, cleared-was, initialized-below}
 use Rattle.dma.specs.Transfers.{writeFault, location, scatter}
 use Rattle.assurance.specs.Ledger.{Bytes, entered, stored, cleared, enteredAt, placed}
 use Rattle.assurance.proofs.Blind.{first, shift}

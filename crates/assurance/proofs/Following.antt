@@ -26,7 +26,7 @@ use Rattle.iommu.specs.declared.Translation.the-variants.{At, Nowhere}
 use Rattle.iommu.proofs.Find.{find, translationIn, translate-find, Apart, insert-find, free-find, without-find, without-apart, sound-apart}
 use Rattle.memory.specs.Shadow.{initialized, shadowLength}
 use Rattle.memory.specs.Memory.{Memory, edited, byteAt, bytesFrom}
-use Rattle.memory.proofs.Shadow.{initialized-below}
+use Rattle.memory.proofs.Marks.{initialized-below}
 use Rattle.dma.specs.Transfers.{readFault, writeFault, deviceReadChecks, deviceWriteChecks, location, gather}
 use Rattle.emulator.specs.Machine.{Machine, Emulator, both, usable, lendable, sound, soundMappings, poweredOn, withMappings, withRegisters, withRunning}
 use Rattle.emulator.specs.Effect.{Result, value, Effect, Outcome, effectOf, outcomeOf, after, filled}

@@ -1,47 +1,82 @@
--- The laws of marks. Nothing but these looks at how marks are kept.
-use Prim.Native.Nat.{ℕ, zero, suc, _<_}
+-- Laws of the shadow: runs of written bytes, and the fault of reading a run.
+use Prim.Native.Nat.{ℕ, zero, suc, _+_, _≤_, _<_}
+use native.Mathlib.Nat.{add-zero, add-suc}
 use native.Mathlib.Omega.{arith}
 use mathlib.Core.Path.{_≡_, refl, sym, _∙_, ap}
-use mathlib.Core.Bool.{Bool, true, false, false≢true}
-use mathlib.Core.List.{List, [], _∷_}
-use lib.ListN.{length, getD, set, length-set}
-use lib.Seq.{getD-set-other}
-use lib.Dec.{eqb}
+use mathlib.Core.Bool.{Bool, true, false, true≢false}
+use mathlib.Core.List.{List}
+use lib.ListN.{getD}
+use lib.Dec.{ltb, eqb}
+use borrow.Author.Tests.{ltb-true, ltb-false, eq-eqb, ne-eqb}
 use Rattle.answer.specs.Tests.{pick}
+use Rattle.answer.specs.Codes.{Unwritten}
+use Rattle.answer.specs.declared.Verdict.the-variants.{Pass, Fail}
+use Rattle.answer.proofs.Checks.{unless-true, unless-false, firstFault-pass, firstFault-at}
+use Rattle.address.specs.Address.{memoryAddress, memoryOffset}
 use Rattle.address.specs.declared.MemoryAddress.{MemoryAddress}
-use Rattle.memory.specs.Shadow.{initialized, marked}
+use Rattle.memory.specs.Shadow.{initialized}
+use Rattle.memory.specs.Transfers.{unwrittenAt, unwrittenIn, writtenRun}
 
-pub marked-length : (s : List ℕ) (a : MemoryAddress) (v : Bool) → length (marked s a v) ≡ length s
-unfolding marked
-marked-length s a v = length-set s (a .0) (pick v 1 0)
+-- ---- one mark
 
--- another byte's mark stays
-pub marked-other : (s : List ℕ) (a k : MemoryAddress) (v : Bool) → (k .0 ≡ a .0 → ⊥) → initialized (marked s a v) k ≡ initialized s k
-unfolding marked initialized
-marked-other s a k v n = ap (λ (x : ℕ). eqb x 1) (getD-set-other s (a .0) (k .0) (pick v 1 0) 0 n)
-
-off-at : (s : List ℕ) (a k : ℕ) → eqb (getD (set s a 0) k 0) 1 ≡ true → k ≡ a → ⊥
-off-at [] a k h e = false≢true h
-off-at (x ∷ s) zero zero h e = false≢true h
-off-at (x ∷ s) zero (suc k) h e = omega arith
-off-at (x ∷ s) (suc a) zero h e = omega arith
-off-at (x ∷ s) (suc a) (suc k) h e = off-at s a k h (omega arith)
-
--- what is still written is not the byte whose mark was cleared
-pub cleared-off : (s : List ℕ) (a k : MemoryAddress) → initialized (marked s a false) k ≡ true → k .0 ≡ a .0 → ⊥
-unfolding marked initialized pick
-cleared-off s a k h = off-at s (a .0) (k .0) h
-
--- and was written
-pub cleared-was : (s : List ℕ) (a k : MemoryAddress) → initialized (marked s a false) k ≡ true → initialized s k ≡ true
-cleared-was s a k h = sym (marked-other s a k false (cleared-off s a k h)) ∙ h
-
-below-at : (s : List ℕ) (k : ℕ) → eqb (getD s k 0) 1 ≡ true → k < length s
-below-at [] k h = absurd (false≢true h)
-below-at (x ∷ s) zero h = omega arith
-below-at (x ∷ s) (suc k) h = let r : k < length s = below-at s k h in omega arith
-
--- a written byte lies in memory
-pub initialized-below : (s : List ℕ) (k : MemoryAddress) → initialized s k ≡ true → k .0 < length s
+pub mark-written : (shadow : List ℕ) (a : ℕ) → getD shadow a 0 ≡ 1 → initialized shadow (memoryAddress a) ≡ true
 unfolding initialized
-initialized-below s k h = below-at s (k .0) h
+mark-written shadow a h = eq-eqb _ _ h
+
+pub mark-unwritten : (shadow : List ℕ) (a : ℕ) → (getD shadow a 0 ≡ 1 → ⊥) → initialized shadow (memoryAddress a) ≡ false
+unfolding initialized
+mark-unwritten shadow a h = ne-eqb _ _ h
+
+-- ---- runs
+
+-- r of the n bytes from a on are written, and then comes one that is not, or the end
+pub record Run (shadow : List ℕ) (a : MemoryAddress) (n r : ℕ) : Type 0 where
+  pub within : r ≤ n
+  pub before : (i : ℕ) → i < r → initialized shadow (memoryOffset a i) ≡ true
+  pub stop : r < n → initialized shadow (memoryOffset a r) ≡ false
+
+pub run-of : (shadow : List ℕ) (a : MemoryAddress) (n : ℕ) → Run shadow a n (writtenRun shadow a n)
+unfolding writtenRun pick
+run-of shadow a zero = record { within = omega arith; before = λ i h. absurd (omega arith); stop = λ h. absurd (omega arith) }
+run-of shadow a (suc n) = go (initialized shadow a) refl (run-of shadow (memoryOffset a 1) n)
+  where
+    later : (i : ℕ) (t : Bool) → initialized shadow (memoryOffset (memoryOffset a 1) i) ≡ t → initialized shadow (memoryOffset a (suc i)) ≡ t
+    later i t h = let e : a .0 + suc i ≡ a .0 + 1 + i = omega arith in rw e h
+
+    all : (r : ℕ) → initialized shadow a ≡ true → Run shadow (memoryOffset a 1) n r → (i : ℕ) → i < suc r → initialized shadow (memoryOffset a i) ≡ true
+    all r e run zero h = rw (add-zero (a .0)) e
+    all r e run (suc i) h = later i true (run .before i (omega arith))
+
+    go : {r : ℕ} (t : Bool) → initialized shadow a ≡ t → Run shadow (memoryOffset a 1) n r → Run shadow a (suc n) (pick t (suc r) 0)
+    go {r} true e run = record { within = omega (arith, run .within); before = all r e run; stop = λ h. later r false (run .stop (omega arith)) }
+    go {r} false e run = record { within = omega arith; before = λ i h. absurd (omega arith); stop = λ h. rw (add-zero (a .0)) e }
+
+-- there is one such number
+pub run-is : (shadow : List ℕ) (a : MemoryAddress) (n r : ℕ) → Run shadow a n r → r ≡ writtenRun shadow a n
+run-is shadow a n r run = go (writtenRun shadow a n) (run-of shadow a n) (ltb r (writtenRun shadow a n)) (ltb (writtenRun shadow a n) r) refl refl
+  where
+    go : (s : ℕ) → Run shadow a n s → (t u : Bool) → ltb r s ≡ t → ltb s r ≡ u → r ≡ s
+    go s other true u e f = absurd (true≢false (sym (other .before r (ltb-true r s e)) ∙ run .stop (omega (arith, ltb-true r s e, other .within))))
+    go s other false true e f = absurd (true≢false (sym (run .before s (ltb-true s r f)) ∙ other .stop (omega (arith, ltb-true s r f, run .within))))
+    go s other false false e f = omega (arith, ltb-false r s e, ltb-false s r f)
+
+pub run-whole : (shadow : List ℕ) (a : MemoryAddress) (n : ℕ) → ((i : ℕ) → i < n → initialized shadow (memoryOffset a i) ≡ true) → writtenRun shadow a n ≡ n
+run-whole shadow a n h = sym (run-is shadow a n n (record { within = omega arith; before = h; stop = λ l. absurd (omega arith) }))
+
+-- ---- the fault of reading a run
+
+module _ (shadow : List ℕ) (a : MemoryAddress) (n r : ℕ) (is : r ≡ writtenRun shadow a n) where
+  run : Run shadow a n r
+  run = rw is (run-of shadow a n)
+
+  passes-before : (i : ℕ) → i < r → unwrittenAt shadow (memoryOffset a i) ≡ Pass
+  unfolding unwrittenAt
+  passes-before i h = unless-true _ _ (run .before i h)
+
+  pub unwritten-none : n ≤ r → unwrittenIn shadow a n ≡ Pass
+  unfolding unwrittenIn
+  unwritten-none h = firstFault-pass _ n (λ i l. passes-before i (omega arith))
+
+  pub unwritten-first : r < n → unwrittenIn shadow a n ≡ Fail Unwritten r
+  unfolding unwrittenIn unwrittenAt
+  unwritten-first h = firstFault-at (λ i. unwrittenAt shadow (memoryOffset a i)) n r Unwritten 0 h passes-before (unless-false _ _ (run .stop h))

@@ -12,6 +12,10 @@ pub record Memory : Type 0 where
   pub bytes : List ℕ
   pub shadow : List ℕ
 
+-- the memory that two lent slices make
+abbrev pub memoryOf : List ℕ → List ℕ → Memory
+memoryOf bytes shadow = record { bytes = bytes; shadow = shadow }
+
 -- a byte stored, which makes it written; or a byte's mark cleared, which keeps the byte
 pub data Edit : Type 0 where
   put : MemoryAddress → ℕ → Edit

@@ -1,6 +1,7 @@
 -- The checks of host store, host load and forget, in document 01's order ("Moving bytes").
-use Prim.Native.Nat.{ℕ}
+use Prim.Native.Nat.{ℕ, zero, suc}
 use mathlib.Core.List.{List}
+use Rattle.answer.specs.Tests.{pick}
 use Rattle.answer.specs.Codes.{Range, Unwritten}
 use Rattle.answer.specs.Checks.{_then_, _unless_, firstFault}
 use Rattle.answer.specs.Limits.{lengthCheck}
@@ -12,6 +13,15 @@ use Rattle.memory.specs.Shadow.{initialized}
 -- what is wrong with reading the byte at an address
 unfoldable pub unwrittenAt : List ℕ → MemoryAddress → Verdict
 unwrittenAt shadow a = Unwritten unless initialized shadow a
+
+-- how many of the `n` bytes from `a` on come before the first that is not initialized; `n` where there is none
+unfoldable pub writtenRun : List ℕ → MemoryAddress → ℕ → ℕ
+writtenRun shadow a zero = 0
+writtenRun shadow a (suc n) = pick (initialized shadow a) (suc (writtenRun shadow (memoryOffset a 1) n)) 0
+
+-- what is wrong with reading the `n` bytes from `a` on
+unfoldable pub unwrittenIn : List ℕ → MemoryAddress → ℕ → Verdict
+unwrittenIn shadow a n = firstFault (λ i. unwrittenAt shadow (memoryOffset a i)) n
 
 -- Host store of `n` bytes to a memory of `size` bytes: "13, 9 (address + length past the end of memory)"
 unfoldable pub hostWriteChecks : ℕ → MemoryAddress → ℕ → Verdict

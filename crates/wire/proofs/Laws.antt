@@ -4,9 +4,9 @@ use native.Mathlib.Nat.{pow-suc, pow-le-pow-right, add-suc, suc-add, add-zero}
 use native.Mathlib.Numerals.{add-one}
 use native.Mathlib.Omega.{arith}
 use mathlib.Core.Path.{_≡_, refl, sym, _∙_, ap}
-use mathlib.Core.List.{List, [], _∷_, _++_}
-use lib.ListN.{length, getD, set, take, drop, replicate, length-set}
-use lib.Seq.{sets, drop-cons, getD-drop, getD-set-other, getD-set-same}
+use mathlib.Core.List.{List, [], _∷_, _++_, append-nil}
+use lib.ListN.{length, getD, set, take, drop, replicate, length-set, length-drop, drop-of-length-le}
+use lib.Seq.{sets, sets-eq, length-take-le, drop-cons, getD-drop, getD-set-other, getD-set-same}
 use Rattle.wire.specs.Field.{field, bytesOf, part}
 
 -- ---- bounds
@@ -114,3 +114,19 @@ fill-more l at n i v h =
     let e : n - i ≡ suc (n - (i + 1)) = omega arith in
     let f : suc (at + i) ≡ at + (i + 1) = omega arith in
     rw (e, ← f)
+
+-- ---- runs of bytes written
+
+-- one run behind another
+pub sets-append : (l : List ℕ) (o : ℕ) (xs ys : List ℕ) → sets l o (xs ++ ys) ≡ sets (sets l o xs) (o + length xs) ys
+sets-append l o [] ys = rw (add-zero o)
+sets-append l o (x ∷ xs) ys = rw (add-suc o (length xs), ← suc-add o (length xs)) (sets-append (set l o x) (suc o) xs ys)
+
+-- a part has the length asked for
+pub length-part : (l : List ℕ) (o n : ℕ) → o + n ≤ length l → length (part l o n) ≡ n
+length-part l o n h = length-take-le n (drop o l) (omega (arith, length-drop o l))
+
+-- a run over the whole list
+pub sets-all : (l xs : List ℕ) → length xs ≡ length l → sets l 0 xs ≡ xs
+sets-all l xs e =
+    sets-eq xs l 0 (omega arith) ∙ ap (λ (rest : List ℕ). xs ++ rest) (drop-of-length-le l {i = 0 + length xs} (omega arith)) ∙ append-nil xs
