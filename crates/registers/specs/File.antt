@@ -4,6 +4,7 @@ use mathlib.Core.Bool.{Bool, true, false}
 use mathlib.Core.List.{List, [], _∷_, _++_, map}
 use mathlib.Core.Option.{Option, none, some}
 use lib.ListN.{length, getD, set, take, replicate}
+use lib.Dec.{eqb}
 use Rattle.answer.specs.Tests.{_and_, pick, isSome}
 use Rattle.answer.specs.Checks.{passes}
 use Rattle.wire.specs.Field.{bytesOf}
@@ -43,6 +44,11 @@ soundFrom i [] = true
 soundFrom i (none ∷ file) = soundFrom (suc i) file
 soundFrom i (some v ∷ file) = passes (valueChecks i false v) and soundFrom (suc i) file
 
+-- whether a row's value, where it has one, is such a value
+unfoldable pub soundValue : ℕ → Option (List ℕ) → Bool
+soundValue i none = true
+soundValue i (some v) = passes (valueChecks i false v)
+
 -- "status is set, and every set register holds a value that setting accepts"
 unfoldable pub soundFile : File → Bool
 soundFile file = isSome (current file statusRow) and soundFrom 1 file
@@ -68,3 +74,9 @@ registerOf (some v) = record { set = true; bytes = v ++ replicate (32 - length v
 -- the registers that code writes for a file
 unfoldable pub slotsOf : File → List Register
 slotsOf file = map registerOf file
+
+-- whether each value has its row's size, from row `i` on: of such a file the registers that code writes are the file again
+unfoldable pub sizedFrom : ℕ → File → Bool
+sizedFrom i [] = true
+sizedFrom i (none ∷ file) = sizedFrom (suc i) file
+sizedFrom i (some v ∷ file) = eqb (length v) (sizeOf i) and sizedFrom (suc i) file

@@ -1,4 +1,17 @@
 // The register file of the device.
+use answer::Verdict;
+ghost use mathlib.Core.Path.{_≡_};
+ghost use mathlib.Core.Option.{none, some};
+ghost use Prim.Native.Nat.{_-_, _<_, _≤_};
+ghost use lib.ListN.{length, set as withElement};
+ghost use lib.Seq.{sets};
+ghost use Rattle.answer.specs.Checks.{_unless_, passes as passesAll};
+ghost use Rattle.answer.specs.declared.Verdict.the-variants.{Pass};
+ghost use Rattle.wire.specs.Field.{bytesOf};
+ghost use Rattle.registers.specs.Rows.{rowCount, kindOf, selectorOf, sizeOf, rowOf, listed, selectorWidth};
+ghost use Rattle.registers.specs.Values.{offered as offeredBits, onlyOffered, powerOfTwo, validQueue, contentChecks, valueChecks};
+ghost use Rattle.registers.specs.File.{current as currentIn, reset as resetFile, soundValue, soundFile, valueIn, fileOf, registerOf, slotsOf};
+ghost use Rattle.registers.specs.Access.{selectorChecks, setChecks, readChecks, readValue};
 
 // One register: whether it is set, and its value at the start of `bytes`. Bytes past the value's size, and all bytes of a register
 // that is not set, mean nothing.
@@ -13,4 +26,373 @@ pub struct Register {
 #[repr(C)]
 pub struct Registers {
     pub slots: [Register; 14],
+}
+
+// ---- the table of registers
+
+pub const OFFERED_FEATURES: u64 = 0x100;
+
+const DRIVER_FEATURES: u64 = 0x101;
+
+const COMMON_FIELD: u64 = 0x102;
+
+const DEVICE_STATUS: u64 = 0x103;
+
+const QUEUE_CONFIG: u64 = 0x104;
+
+const NOTIFY_CONFIG: u64 = 0x105;
+
+// The table has a row for offered features, row 0, and one for each register that is kept: row `i + 1` is that of slot `i`.
+pub const ROWS: usize = 15;
+
+pub const STATUS_ROW: usize = 6;
+
+const KINDS: [u64; 15] = [
+    OFFERED_FEATURES,
+    DRIVER_FEATURES,
+    COMMON_FIELD,
+    COMMON_FIELD,
+    COMMON_FIELD,
+    COMMON_FIELD,
+    DEVICE_STATUS,
+    QUEUE_CONFIG,
+    QUEUE_CONFIG,
+    QUEUE_CONFIG,
+    QUEUE_CONFIG,
+    NOTIFY_CONFIG,
+    NOTIFY_CONFIG,
+    NOTIFY_CONFIG,
+    NOTIFY_CONFIG,
+];
+
+const SELECTORS: [u64; 15] = [0, 0, 0, 8, 16, 22, 0, 0, 1, 2, 3, 0, 1, 2, 3];
+
+const SIZES: [usize; 15] = [8, 8, 4, 4, 2, 2, 1, 32, 32, 32, 32, 8, 8, 8, 8];
+
+pub fn kind_of(row: usize) -> u64
+    requires { ⌜ row < rowCount ⌝ }
+    ensures { λ r. ⌜ r ≡ kindOf row ⌝ }
+{
+    KINDS[row]
+}
+
+pub fn selector_of(row: usize) -> u64
+    requires { ⌜ row < rowCount ⌝ }
+    ensures { λ r. ⌜ r ≡ selectorOf row ⌝ }
+{
+    SELECTORS[row]
+}
+
+pub fn size_of(row: usize) -> usize
+    requires { ⌜ row < rowCount ⌝ }
+    ensures { λ r. ⌜ r ≡ sizeOf row ⌝ }
+{
+    SIZES[row]
+}
+
+// The row of a type and a selector number, or `ROWS`.
+pub fn row_of(kind: u64, selector: u64) -> usize
+    ensures { λ r. ⌜ r ≡ rowOf kind selector ⌝ }
+{
+    let mut i: usize = 0;
+    while i < ROWS {
+        if kind_of(i) == kind {
+            if selector_of(i) == selector {
+                return i;
+            }
+        }
+        i += 1;
+    }
+    i
+}
+
+pub fn is_listed(kind: u64) -> bool
+    ensures { λ r. ⌜ r ≡ listed kind ⌝ }
+{
+    if kind < OFFERED_FEATURES {
+        return false;
+    }
+    kind <= NOTIFY_CONFIG
+}
+
+// How many of the selector's 8 bytes a type uses.
+pub fn selector_width(kind: u64) -> u64
+    ensures { λ r. ⌜ r ≡ selectorWidth kind ⌝ }
+{
+    if kind == COMMON_FIELD {
+        return 4;
+    }
+    if QUEUE_CONFIG <= kind { 2 } else { 0 }
+}
+
+// ---- what a value must satisfy
+
+const OFFERED: u64 = 0x130000000;
+
+fn only_offered(features: u64) -> bool
+    ensures { λ r. ⌜ r ≡ onlyOffered features ⌝ }
+{
+    features & OFFERED == features
+}
+
+// A power of two from 1 to 256: a divisor of 256.
+fn is_power_of_two(n: u16) -> bool
+    ensures { λ r. ⌜ r ≡ powerOfTwo 8 n ⌝ }
+{
+    if n == 0 {
+        return false;
+    }
+    256 % n == 0
+}
+
+fn is_valid_queue(v: &[u8]) -> bool
+    requires { ⌜ length (now v) ≡ 32 ⌝ }
+    ensures { λ r. ⌜ r ≡ validQueue (now (v .entry)) ⌝ }
+{
+    if !is_power_of_two(wire::get_u16(v, 0)) {
+        return false;
+    }
+    if 1 < wire::get_u16(v, 4) {
+        return false;
+    }
+    if wire::get_u16(v, 6) != 0 {
+        return false;
+    }
+    if wire::get_u64(v, 8) % 16 != 0 {
+        return false;
+    }
+    if wire::get_u64(v, 16) % 2 != 0 {
+        return false;
+    }
+    wire::get_u64(v, 24) % 4 == 0
+}
+
+fn fail_unless(code: u32, good: bool) -> Verdict
+    ensures { λ r. ⌜ r ≡ (code unless good) ⌝ }
+{
+    if good {
+        Verdict::Pass
+    } else {
+        Verdict::Fail(code, 0)
+    }
+}
+
+// The rule of a row's type, for a value of the row's size.
+fn check_content(row: usize, v: &[u8]) -> Verdict
+    requires { ⌜ (row < rowCount) × (length (now v) ≡ sizeOf row) ⌝ }
+    ensures { λ r. ⌜ r ≡ contentChecks (kindOf row) (now (v .entry)) ⌝ }
+{
+    let kind = kind_of(row);
+    if kind == OFFERED_FEATURES {
+        return fail_unless(answer::MISMATCH, wire::get_u64(v, 0) == OFFERED);
+    }
+    if kind == DRIVER_FEATURES {
+        return fail_unless(answer::MISMATCH, only_offered(wire::get_u64(v, 0)));
+    }
+    if kind == QUEUE_CONFIG {
+        return fail_unless(answer::VALUE, is_valid_queue(v));
+    }
+    if kind == NOTIFY_CONFIG {
+        return fail_unless(answer::VALUE, wire::get_u32(v, 4) == 0);
+    }
+    Verdict::Pass
+}
+
+// A value for a row, which came before where `twice` is true.
+pub fn check_value(row: usize, twice: bool, v: &[u8]) -> Verdict
+    requires { ⌜ row < rowCount ⌝ }
+    ensures { λ r. ⌜ r ≡ valueChecks row twice (now (v .entry)) ⌝ }
+{
+    if v.len() != size_of(row) {
+        return Verdict::Fail(answer::VALUE, 0);
+    }
+    if twice {
+        return Verdict::Fail(answer::TWICE, 0);
+    }
+    check_content(row, v)
+}
+
+// ---- the register file
+
+// A register that is not set.
+pub fn unset() -> Register
+    ensures { λ r. ⌜ r ≡ registerOf none ⌝ }
+{
+    Register {
+        set: false,
+        bytes: [0u8; 32],
+    }
+}
+
+// A register that holds the value `v`, with zeros behind it.
+pub fn holding(v: &[u8]) -> Register
+    requires { ⌜ length (now v) ≤ 32 ⌝ }
+    ensures { λ r. ⌜ r ≡ registerOf (some (now (v .entry))) ⌝ }
+{
+    let mut bytes = [0u8; 32];
+    let n = v.len();
+    wire::copy(&mut bytes, 0, v, 0, n);
+    Register { set: true, bytes }
+}
+
+// What the row of offered features shows.
+fn offered() -> Register
+    ensures { λ r. ⌜ r ≡ registerOf (some (bytesOf 8 offeredBits)) ⌝ }
+{
+    let mut bytes = [0u8; 32];
+    wire::put_u64(&mut bytes, 0, OFFERED);
+    Register { set: true, bytes }
+}
+
+// The same register: its bytes are 32, as its type says, which a proof learns from this contract.
+fn whole(r: Register) -> Register
+    ensures { λ x. ⌜ (x ≡ r) × (length (r .bytes) ≡ 32) ⌝ }
+{
+    r
+}
+
+// The register that a row shows.
+pub fn current(registers: Registers, row: usize) -> Register
+    requires { ⌜ row < rowCount ⌝ }
+    ensures { λ r. ⌜ (valueIn row r ≡ currentIn (fileOf registers) row) × (length (r .bytes) ≡ 32) ⌝ }
+{
+    if row == 0 {
+        return whole(offered());
+    }
+    let slots = registers.slots;
+    let i = row - 1;
+    let r = slots[i];
+    whole(r)
+}
+
+fn passes(verdict: Verdict) -> bool
+    ensures { λ r. ⌜ r ≡ passesAll verdict ⌝ }
+{
+    match verdict {
+        Verdict::Pass => true,
+        Verdict::Fail(_, _) => false,
+    }
+}
+
+// Whether a register is not set, or holds a value that setting accepts.
+fn is_sound(row: usize, r: Register) -> bool
+    requires { ⌜ (row < rowCount) × (length (r .bytes) ≡ 32) ⌝ }
+    ensures { λ x. ⌜ x ≡ soundValue row (valueIn row r) ⌝ }
+{
+    if !r.set {
+        return true;
+    }
+    let size = size_of(row);
+    let bytes = r.bytes;
+    passes(check_value(row, false, &bytes[..size]))
+}
+
+// Whether status is set, and every set register holds a value that setting accepts.
+pub fn sound(registers: Registers) -> bool
+    ensures { λ r. ⌜ r ≡ soundFile (fileOf registers) ⌝ }
+{
+    let slots = registers.slots;
+    let status = slots[STATUS_ROW - 1];
+    if !status.set {
+        return false;
+    }
+    let mut i: usize = 0;
+    while i < 14 {
+        let r = whole(slots[i]);
+        if !is_sound(i + 1, r) {
+            return false;
+        }
+        i += 1;
+    }
+    true
+}
+
+// Status 0, and no other register set.
+pub fn reset() -> Registers
+    ensures { λ r. ⌜ r .slots ≡ slotsOf resetFile ⌝ }
+{
+    let none = unset();
+    let mut slots = [none; 14];
+    let zero: [u8; 1] = [0];
+    let status = holding(&zero);
+    slots[STATUS_ROW - 1] = status;
+    Registers { slots }
+}
+
+// ---- setting and reading by type and selector number
+
+fn check_selector(kind: u64, selector: u64) -> Verdict
+    ensures { λ r. ⌜ r ≡ selectorChecks kind selector ⌝ }
+{
+    if selector_width(kind) == 0 {
+        if 0 < selector {
+            return Verdict::Fail(answer::HEADER, 0);
+        }
+    }
+    fail_unless(answer::INDEX, row_of(kind, selector) < ROWS)
+}
+
+pub fn check_set(kind: u64, selector: u64, v: &[u8]) -> Verdict
+    ensures { λ r. ⌜ r ≡ setChecks kind selector (now (v .entry)) ⌝ }
+{
+    if !is_listed(kind) {
+        return Verdict::Fail(answer::UNKNOWN_PART, 0);
+    }
+    if kind == OFFERED_FEATURES {
+        return Verdict::Fail(answer::READ_ONLY, 0);
+    }
+    let verdict = check_selector(kind, selector);
+    match verdict {
+        Verdict::Fail(code, place) => Verdict::Fail(code, place),
+        Verdict::Pass => check_value(row_of(kind, selector), false, v),
+    }
+}
+
+// The registers with one set to a value that `check_set` passes.
+pub fn set(registers: Registers, kind: u64, selector: u64, v: &[u8]) -> Registers
+    requires { ⌜ setChecks kind selector (now v) ≡ Pass ⌝ }
+    ensures { λ r. ⌜ r .slots ≡ withElement (registers .slots) (rowOf kind selector - 1) (registerOf (some (now (v .entry)))) ⌝ }
+{
+    let i = row_of(kind, selector) - 1;
+    let r = holding(v);
+    let mut slots = registers.slots;
+    slots[i] = r;
+    Registers { slots }
+}
+
+// Reading into a buffer of `room` bytes.
+pub fn check_read(registers: Registers, kind: u64, selector: u64, room: usize) -> Verdict
+    ensures { λ r. ⌜ r ≡ readChecks (fileOf registers) kind selector room ⌝ }
+{
+    if !is_listed(kind) {
+        return Verdict::Fail(answer::UNKNOWN_PART, 0);
+    }
+    let verdict = check_selector(kind, selector);
+    match verdict {
+        Verdict::Fail(code, place) => Verdict::Fail(code, place),
+        Verdict::Pass => {
+            let row = row_of(kind, selector);
+            let r = current(registers, row);
+            if !r.set {
+                return Verdict::Fail(answer::UNSET, 0);
+            }
+            if room < size_of(row) {
+                return Verdict::Fail(answer::NO_SPACE, 0);
+            }
+            Verdict::Pass
+        }
+    }
+}
+
+// Puts the value of a register for which `check_read` passes to the start of the buffer, and reports its length.
+pub fn read(registers: Registers, kind: u64, selector: u64, buf: &mut [u8]) -> usize
+    requires { ⌜ readChecks (fileOf registers) kind selector (length (now buf)) ≡ Pass ⌝ }
+    ensures { λ r. ⌜ (now (buf .exit) ≡ sets (now (buf .entry)) 0 (readValue (fileOf registers) kind selector)) × (r ≡ length (readValue (fileOf registers) kind selector)) ⌝ }
+{
+    let row = row_of(kind, selector);
+    let r = current(registers, row);
+    let size = size_of(row);
+    let bytes = r.bytes;
+    wire::copy(buf, 0, &bytes, 0, size);
+    size
 }

@@ -1,0 +1,154 @@
+-- Laws of the register file, and of the registers that code keeps for it.
+use Prim.Native.Nat.{ℕ, zero, suc, _+_, _-_, _≤_, _<_}
+use native.Mathlib.Nat.{not-suc-le-zero, add-zero, add-suc, suc-add, sub-zero, zero-sub, suc-sub-suc}
+use native.Mathlib.Numerals.{add-one}
+use native.Mathlib.Omega.{arith}
+use mathlib.Core.Path.{_≡_, refl, sym, _∙_, ap}
+use mathlib.Core.Bool.{Bool, true, false, false≢true}
+use mathlib.Core.List.{List, [], _∷_, _++_, map}
+use mathlib.Core.Option.{Option, none, some}
+use lib.ListN.{length, getD, set, take, drop, replicate, length-map, drop-of-length-le}
+use lib.Seq.{sets, take-at, drop-cons, sets-eq}
+use lib.Dec.{eqb}
+use borrow.Author.Tests.{eq-eqb, eqb-true}
+use Rattle.answer.specs.Tests.{_and_, pick, isSome}
+use Rattle.answer.specs.Checks.{passes}
+use Rattle.answer.specs.declared.Verdict.{Verdict}
+use Rattle.answer.specs.declared.Verdict.the-variants.{Pass, Fail}
+use Rattle.answer.proofs.Tests.{and-true, and-made, and-false}
+use Rattle.registers.specs.Rows.{statusRow, sizeOf}
+use Rattle.registers.specs.Values.{valueChecks}
+use Rattle.registers.specs.File.{File, current, withValue, soundFrom, soundValue, soundFile, valueIn, fileFrom, fileOf, registerOf, slotsOf, sizedFrom}
+use Rattle.registers.specs.declared.Register.{Register}
+use Rattle.registers.specs.declared.Registers.{Registers}
+use Rattle.registers.proofs.Values.{value-size}
+
+-- owning an array of structs tells the length of what its list maps to (for `search (needs, length-mapped)`)
+pub length-mapped : (X Y : Type 0) (f : X → Y) (l : List X) (n : ℕ) → length (map f l) ≡ n → length l ≡ n
+length-mapped X Y f l n e = sym (length-map l f) ∙ e
+
+-- what a list of registers reads as past its end
+abbrev pub absent : Register
+absent = record { set = false; bytes = [] }
+
+-- ---- one register
+
+pub value-set : (i : ℕ) (r : Register) → r .set ≡ true → valueIn i r ≡ some (take (sizeOf i) (r .bytes))
+unfolding valueIn pick
+value-set i r h = rw h
+
+pub value-unset : (i : ℕ) (r : Register) → r .set ≡ false → valueIn i r ≡ none
+unfolding valueIn pick
+value-unset i r h = rw h
+
+pub set-is : (i : ℕ) (r : Register) → isSome (valueIn i r) ≡ r .set
+unfolding valueIn pick isSome
+set-is i r = go (r .set)
+  where
+    go : (t : Bool) → isSome (pick t (some (take (sizeOf i) (r .bytes))) none) ≡ t
+    go true = refl
+    go false = refl
+
+-- a value written is read back
+pub value-written : (i : ℕ) (v : List ℕ) → length v ≡ sizeOf i → valueIn i (registerOf (some v)) ≡ some v
+unfolding valueIn registerOf pick
+value-written i v e = ap some (take-at v _ (sizeOf i) e)
+
+-- a value copied to the front of 32 zeros
+pub register-made : (v : List ℕ) → length v ≤ 32 → record { set = true; bytes = sets (replicate 32 0) 0 v } ≡ registerOf (some v)
+unfolding registerOf
+register-made v h =
+    let e : 0 + length v ≡ length v = omega arith in
+    ap (λ (b : List ℕ). record { set = true; bytes = b }) (sets-eq v (replicate 32 0) 0 (omega arith) ∙ rw (e, zeros 32 (length v)))
+  where
+    zeros : (n k : ℕ) → drop {A = ℕ} k (replicate n 0) ≡ replicate (n - k) 0
+    zeros n zero = rw sub-zero
+    zeros zero (suc k) = rw zero-sub
+    zeros (suc n) (suc k) = rw suc-sub-suc (zeros n k)
+
+-- ---- the file that registers are
+
+pub file-at : (i : ℕ) (l : List Register) (k : ℕ) → getD (fileFrom i l) k none ≡ valueIn (i + k) (getD l k absent)
+unfolding fileFrom
+file-at i [] k = sym (value-unset (i + k) absent refl)
+file-at i (r ∷ rs) zero = rw add-zero
+file-at i (r ∷ rs) (suc k) = rw (add-suc, ← suc-add) (file-at (suc i) rs k)
+
+-- the register that is kept for a row
+pub current-kept : (registers : Registers) (i : ℕ) → 0 < i → current (fileOf registers) i ≡ valueIn i (getD (registers .slots) (i - 1) absent)
+unfolding current fileOf
+current-kept registers zero h = absurd (not-suc-le-zero h)
+current-kept registers (suc k) h = let e : 1 + k ≡ suc k = omega arith in let f : suc k - 1 ≡ k = omega arith in rw (f, ← e) (file-at 1 (registers .slots) k)
+
+pub length-file : (i : ℕ) (l : List Register) → length (fileFrom i l) ≡ length l
+unfolding fileFrom
+length-file i [] = refl
+length-file i (r ∷ rs) = ap suc (length-file (suc i) rs)
+
+-- setting a register of the code is setting its row
+pub file-set : (i : ℕ) (l : List Register) (k : ℕ) (v : List ℕ) → length v ≡ sizeOf (i + k)
+    → fileFrom i (set l k (registerOf (some v))) ≡ set (fileFrom i l) k (some v)
+unfolding fileFrom
+file-set i [] k v e = refl
+file-set i (r ∷ rs) zero v e = ap (λ (x : Option (List ℕ)). x ∷ fileFrom (suc i) rs) (value-written i v (rw add-zero at e))
+file-set i (r ∷ rs) (suc k) v e = ap (λ (f : File). valueIn i r ∷ f) (file-set (suc i) rs k v (rw (suc-add, ← add-suc) e))
+
+none-unset : registerOf none .set ≡ false
+unfolding registerOf
+none-unset = refl
+
+-- what code writes for a file is the file again, where each value has its row's size
+pub file-written : (i : ℕ) (file : File) → sizedFrom i file ≡ true → fileFrom i (slotsOf file) ≡ file
+unfolding fileFrom slotsOf sizedFrom
+file-written i [] h = refl
+file-written i (none ∷ file) h = rw (value-unset i (registerOf none) none-unset, file-written (suc i) file h)
+file-written i (some v ∷ file) h =
+    let b = and-true _ _ h in
+    rw (value-written i v (eqb-true _ _ (b .0)), file-written (suc i) file (b .1))
+
+-- ---- soundness
+
+passes-true : (v : Verdict) → passes v ≡ true → v ≡ Pass
+unfolding passes
+passes-true Pass h = refl
+passes-true (Fail code place) h = absurd (false≢true h)
+
+pub sound-value : (i : ℕ) (v : List ℕ) → soundValue i (some v) ≡ true → valueChecks i false v ≡ Pass
+unfolding soundValue
+sound-value i v h = passes-true _ h
+
+pub sound-cons : (i : ℕ) (x : Option (List ℕ)) (file : File) → soundFrom i (x ∷ file) ≡ (soundValue i x and soundFrom (suc i) file)
+unfolding soundFrom soundValue _and_
+sound-cons i none file = refl
+sound-cons i (some v) file = refl
+
+-- values that are accepted have their rows' sizes
+pub sound-sized : (i : ℕ) (file : File) → soundFrom i file ≡ true → sizedFrom i file ≡ true
+unfolding soundFrom sizedFrom
+sound-sized i [] h = refl
+sound-sized i (none ∷ file) h = sound-sized (suc i) file h
+sound-sized i (some v ∷ file) h =
+    let b = and-true _ _ h in
+    and-made _ _ (eq-eqb _ _ (value-size i false v (passes-true _ (b .0)))) (sound-sized (suc i) file (b .1))
+
+module _ (registers : Registers) where
+  pub sound-status : getD (registers .slots) 5 absent .set ≡ false → false ≡ soundFile (fileOf registers)
+  unfolding soundFile
+  sound-status e =
+      sym (and-false _ _ (ap isSome (current-kept registers statusRow (omega arith)) ∙ set-is statusRow _ ∙ e))
+
+  pub sound-rest : getD (registers .slots) 5 absent .set ≡ true → soundFile (fileOf registers) ≡ soundFrom 1 (fileFrom 1 (registers .slots))
+  unfolding soundFile _and_ fileOf
+  sound-rest e = rw (ap isSome (current-kept registers statusRow (omega arith)) ∙ set-is statusRow _ ∙ e)
+
+-- the loop that looks through the registers, at slot `i`
+module _ (l : List Register) (i : ℕ) where
+  pub sound-more : i < length l
+      → soundFrom (i + 1) (fileFrom (i + 1) (drop i l))
+      ≡ (soundValue (i + 1) (valueIn (i + 1) (getD l i absent)) and soundFrom (i + 1 + 1) (fileFrom (i + 1 + 1) (drop (i + 1) l)))
+  unfolding fileFrom
+  sound-more lt = simp add-one (rw (drop-cons l i absent lt) (sound-cons _ _ _))
+
+  pub sound-end : length l ≤ i → soundFrom (i + 1) (fileFrom (i + 1) (drop i l)) ≡ true
+  unfolding soundFrom fileFrom
+  sound-end le = rw (drop-of-length-le l le)

@@ -1,0 +1,102 @@
+-- Laws of what a value must satisfy.
+use Prim.Native.Nat.{ℕ, zero, suc, _+_, _%_, _^_, _≤_, _<_}
+use native.Mathlib.Nat.{mod-eq-of-lt}
+use native.Mathlib.Omega.{arith}
+use mathlib.Core.Path.{_≡_, refl, sym, _∙_, ap}
+use mathlib.Core.Bool.{Bool, true, false, false≢true}
+use mathlib.Core.List.{List}
+use lib.ListN.{length}
+use lib.Dec.{eqb, leb, ltb}
+use borrow.Author.Tests.{eq-eqb, ne-eqb, leb-true, le-leb, eqb-true, ltb-true, ltb-false}
+use Rattle.answer.specs.Tests.{_and_, _or_, pick}
+use Rattle.answer.specs.Codes.{Value}
+use Rattle.answer.specs.Checks.{_then_, _when_, _unless_}
+use Rattle.answer.specs.declared.Verdict.the-variants.{Pass}
+use Rattle.answer.proofs.Tests.{and-true, is-false, below, below-at}
+use Rattle.answer.proofs.Checks.{then-pass, unless-pass}
+use Rattle.wire.specs.Field.{field}
+use Rattle.registers.specs.Rows.{sizeOf}
+use Rattle.registers.specs.Values.{powerOfTwo, validQueue, valueChecks}
+
+-- ---- powers of two
+
+-- two tests that say the same
+unfoldable same : Bool → Bool → Bool
+same true t = t
+same false true = false
+same false false = true
+
+same-eq : (s t : Bool) → same s t ≡ true → s ≡ t
+unfolding same
+same-eq true t h = sym h
+same-eq false true h = absurd (false≢true h)
+same-eq false false h = refl
+
+unfoldable pub divides : ℕ → Bool
+divides n = pick (eqb n 0) false (eqb (256 % n) 0)
+
+power-small : (n : ℕ) → n < 257 → divides n ≡ powerOfTwo 8 n
+unfolding below _and_ _or_ pick same divides powerOfTwo
+power-small n h = same-eq _ _ (below-at (λ n. same (divides n) (powerOfTwo 8 n)) 257 refl n h)
+
+power-most : (k n : ℕ) → 2 ^ k < n → powerOfTwo k n ≡ false
+unfolding powerOfTwo _or_
+power-most zero n h = ne-eqb n 1 (λ e. omega arith)
+power-most (suc k) n h = rw (ne-eqb n (2 ^ suc k) (λ e. omega arith)) (power-most k n (omega arith))
+
+divides-most : (n : ℕ) → 256 < n → divides n ≡ false
+unfolding divides pick
+divides-most n h =
+    let z : n ≡ 0 → ⊥ = λ e. omega arith in
+    rw (ne-eqb _ _ z, mod-eq-of-lt h)
+
+-- a power of two up to 256 is what divides 256
+pub power-is : (n : ℕ) → divides n ≡ powerOfTwo 8 n
+power-is n = go (ltb n 257) refl
+  where
+    go : (t : Bool) → ltb n 257 ≡ t → divides n ≡ powerOfTwo 8 n
+    go true e = power-small n (ltb-true _ _ e)
+    go false e = divides-most n (ltb-false _ _ e) ∙ sym (power-most 8 n (ltb-false _ _ e))
+
+-- ---- a queue's value
+
+-- what a valid one satisfies
+pub record Queue (v : List ℕ) : Type 0 where
+  pub size : powerOfTwo 8 (field v 0 2) ≡ true
+  pub enabled : field v 4 2 ≤ 1
+  pub reserved : field v 6 2 ≡ 0
+  pub descriptors : field v 8 8 % 16 ≡ 0
+  pub driver : field v 16 8 % 2 ≡ 0
+  pub device : field v 24 8 % 4 ≡ 0
+
+pub queue-says : (v : List ℕ) → validQueue v ≡ true → Queue v
+unfolding validQueue
+queue-says v h =
+    let a = and-true _ _ h in
+    let b = and-true _ _ (a .0) in
+    let c = and-true _ _ (b .0) in
+    let d = and-true _ _ (c .0) in
+    let e = and-true _ _ (d .0) in
+    record {
+      size = e .0;
+      enabled = leb-true _ _ (e .1);
+      reserved = eqb-true _ _ (d .1);
+      descriptors = eqb-true _ _ (c .1);
+      driver = eqb-true _ _ (b .1);
+      device = eqb-true _ _ (a .1);
+    }
+
+pub no-queue : (v : List ℕ) → (Queue v → ⊥) → false ≡ validQueue v
+no-queue v h = sym (is-false _ (λ t. h (queue-says v t)))
+
+-- the last test decides where the others hold
+pub queue-last : (v : List ℕ) → powerOfTwo 8 (field v 0 2) ≡ true → field v 4 2 ≤ 1 → field v 6 2 ≡ 0 → field v 8 8 % 16 ≡ 0 → field v 16 8 % 2 ≡ 0
+    → eqb (field v 24 8 % 4) 0 ≡ validQueue v
+unfolding validQueue _and_
+queue-last v a b c d e = rw (a, le-leb _ _ b, eq-eqb _ _ c, eq-eqb _ _ d, eq-eqb _ _ e)
+
+-- ---- all checks of a value
+
+pub value-size : (i : ℕ) (twice : Bool) (v : List ℕ) → valueChecks i twice v ≡ Pass → length v ≡ sizeOf i
+unfolding valueChecks
+value-size i twice v h = eqb-true _ _ (unless-pass _ _ (then-pass _ _ h .0))

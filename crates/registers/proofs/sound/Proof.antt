@@ -1,0 +1,108 @@
+-- `registers::sound` meets its contract: the slots before `i` are sound.
+use Prim.Native.Nat.{_+_, _-_, _≤_}
+use native.Mathlib.Omega.{arith}
+use mathlib.Core.Path.{_≡_, refl, sym, _∙_, ap}
+use mathlib.Core.Bool.{Bool}
+use lib.ListN.{drop, length}
+use borrow.Author.Tests.{not-true, not-false}
+use Rattle.answer.specs.Tests.{_and_}
+use Rattle.registers.specs.File.{soundFile, soundFrom, soundValue, valueIn, fileFrom, fileOf}
+use Rattle.registers.specs.declared.Register.{Register}
+use Rattle.registers.proofs.File.{length-mapped, sound-status, sound-rest, sound-more, sound-end}
+use borrow.Author.Needs.{needs}
+use Rattle.registers.proofs.sound.Statement.{statement}
+use Rattle.registers.proofs.sound.Tie as tie
+
+abbrev Inv-loop : tie.InvT-loop
+Inv-loop slots i₀ i = (i ≤ 14) × (soundFile (fileFrom 1 slots) ≡ soundFrom (i + 1) (fileFrom (i + 1) (drop i slots)))
+
+abbrev μ-loop : tie.MeasureT-loop
+μ-loop slots i₀ i = 14 - i
+
+sub-status : tie.Need-sub-status Inv-loop μ-loop
+sub-status c = search needs
+
+mul-status : tie.Need-mul-status Inv-loop μ-loop
+mul-status c = search needs
+
+array-copy-out-status : tie.Need-array-copy-out-status Inv-loop μ-loop
+array-copy-out-status c = search needs
+
+returns : tie.Need-returns Inv-loop μ-loop
+returns c = sound-status _ (not-true _ (c .if1 .taken))
+
+loop-holds : tie.Need-loop-holds Inv-loop μ-loop
+unfolding fileOf
+loop-holds c = (omega arith, sound-rest _ (not-false _ (c .if1 .left)))
+
+mul-whole : tie.Need-mul-whole Inv-loop μ-loop
+mul-whole c = search needs
+
+array-copy-out-whole : tie.Need-array-copy-out-whole Inv-loop μ-loop
+array-copy-out-whole c = search needs
+
+whole-requires : tie.Need-whole-requires Inv-loop μ-loop
+whole-requires c κs = search needs
+
+add-is-sound : tie.Need-add-is-sound Inv-loop μ-loop
+add-is-sound c = search needs
+
+is-sound-requires : tie.Need-is-sound-requires Inv-loop μ-loop
+is-sound-requires c κs = (omega arith, ap (λ (r : Register). length (r .bytes)) (c .whole .ensures .0) ∙ c .whole .ensures .1)
+
+-- all are sound if this one is and those behind it are
+turn : (c : tie.After-is-sound Inv-loop μ-loop)
+    → let l = c .before .before .before .before in
+    let i = l .loop .i in
+    let slots = l .before .before .before .before .before .args .registers .slots in
+    soundFile (fileFrom 1 slots) ≡ (c .is-sound .result and soundFrom (i + 1 + 1) (fileFrom (i + 1 + 1) (drop (i + 1) slots)))
+turn c =
+    let l = c .before .before .before .before in
+    let i = l .loop .i in
+    let slots = l .before .before .before .before .before .args .registers .slots in
+    let long : length slots ≡ 14 = search (needs, length-mapped) in
+    let e = c .is-sound .ensures ∙ ap (λ (r : Register). soundValue (i + 1) (valueIn (i + 1) r)) (c .before .whole .ensures .0) in
+    l .loop .inv .1 ∙ sound-more slots i (omega arith) ∙ ap (λ (t : Bool). t and soundFrom (i + 1 + 1) (fileFrom (i + 1 + 1) (drop (i + 1) slots))) (sym e)
+
+returns-2 : tie.Need-returns-2 Inv-loop μ-loop
+unfolding _and_ fileOf
+returns-2 c = sym (turn (c .before) ∙ rw (not-true (c .before .is-sound .result) (c .if2 .taken)))
+
+add-i : tie.Need-add-i Inv-loop μ-loop
+add-i c = search needs
+
+loop-less : tie.Need-loop-less Inv-loop μ-loop
+loop-less c = search needs
+
+loop-again : tie.Need-loop-again Inv-loop μ-loop
+unfolding _and_
+loop-again c = (omega arith, turn (c .before) ∙ rw (not-false (c .before .is-sound .result) (c .if2 .left)))
+
+returns-3 : tie.Need-returns-3 Inv-loop μ-loop
+unfolding fileOf
+returns-3 c =
+    let l = c .before in
+    let long : length (l .before .before .before .before .before .args .registers .slots) ≡ 14 = search (needs, length-mapped) in
+    sym (l .loop .inv .1 ∙ sound-end _ (l .loop .i) (omega arith))
+
+pub sound-spec : {M : Type 1} → statement M
+sound-spec =
+    tie.close
+    (tie.spec
+    Inv-loop
+    μ-loop
+    sub-status
+    mul-status
+    array-copy-out-status
+    returns
+    loop-holds
+    mul-whole
+    array-copy-out-whole
+    whole-requires
+    add-is-sound
+    is-sound-requires
+    returns-2
+    add-i
+    loop-less
+    loop-again
+    returns-3)
