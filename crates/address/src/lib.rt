@@ -7,6 +7,9 @@ ghost use Rattle.address.specs.Address.{aligned as onPage, inDeviceRange
 // Device addresses lie below 2^48.
 pub const DEVICE_LIMIT: u64 = 0x1000000000000;
 
+// Memory has at most 2^30 bytes.
+pub const MEMORY_LIMIT: u64 = 0x40000000;
+
 // An address as the device sees it (IOVA).
 #[repr(C)]
 pub struct DeviceAddress(pub u64);

@@ -30,6 +30,19 @@ pub and-first : {s r : Bool} (t : Bool) → s ≡ false → r ≡ s → r ≡ (s
 unfolding _and_
 and-first t p q = rw (q, p)
 
+-- three tests that are tried one after the other: the first, the second, or the last decides
+pub first-not : {a : Bool} (b c : Bool) → a ≡ false → false ≡ (a and b and c)
+unfolding _and_
+first-not b c p = rw p
+
+pub second-not : {a b : Bool} (c : Bool) → a ≡ true → b ≡ false → false ≡ (a and b and c)
+unfolding _and_
+second-not c p q = rw (p, q)
+
+pub third-is : {a b : Bool} (c : Bool) → a ≡ true → b ≡ true → c ≡ (a and b and c)
+unfolding _and_
+third-is c p q = rw (p, q)
+
 pub or-false : (s t : Bool) → (s or t) ≡ false → (s ≡ false) × (t ≡ false)
 unfolding _or_
 or-false true t h = absurd (true≢false h)

@@ -1,1 +1,6 @@
 pub mod Meets
+pub mod Soundness
+pub mod PowerOn
+pub mod Running
+pub mod HostTransfers
+pub mod StateCalls

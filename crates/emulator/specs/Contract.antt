@@ -2,29 +2,34 @@
 -- its outcome.
 use Prim.Native.Nat.{ℕ, _-_}
 use mathlib.Core.Path.{_≡_}
-use mathlib.Core.Bool.{Bool}
+use mathlib.Core.Bool.{Bool, true, false}
 use mathlib.Core.List.{List}
 use mathlib.Core.Option.{Option, none, some}
 use lib.ListN.{set}
-use Rattle.answer.specs.Answer.{Answer}
+use Rattle.answer.specs.Answer.{Answer, done, refused}
+use Rattle.answer.specs.declared.Answer.{Answer as Told}
+use Rattle.answer.specs.declared.Answer.the-variants.{Done, Refused}
 use Rattle.answer.specs.declared.Verdict.{Verdict}
 use Rattle.answer.specs.declared.Verdict.the-variants.{Pass, Fail}
 use Rattle.iommu.specs.Table.{holding}
+use Rattle.iommu.specs.declared.Table.{Table}
 use Rattle.memory.specs.Memory.{Memory, edited}
 use Rattle.registers.specs.Rows.{rowOf}
-use Rattle.registers.specs.File.{current, registerOf, slotsOf}
-use Rattle.registers.specs.declared.Register.{Register}
+use Rattle.registers.specs.File.{registerOf, slotsOf}
+use Rattle.registers.specs.declared.Registers.{Registers}
 use Rattle.emulator.specs.Machine.{Machine, Emulator, emulatorOf}
-use Rattle.emulator.specs.Effect.{Result, filled}
+use Rattle.emulator.specs.Effect.{Result, value, location, filled}
 use Rattle.emulator.specs.Requests.{Request, getApiVersion, checkExtension, getIommuInfo, mapDma, unmapDma, getInfo, getRegionInfo, getIrqInfo, resetDevice, Entry, identify}
 use Rattle.emulator.specs.Calls.{Call, powerOn, request, lookUp, deviceRead, deviceWrite, hostWrite, hostRead, invalidate, setRegister, readRegister, loadParts, saveParts, stop, start, checks, outcome}
 use Rattle.emulator.specs.declared.State.{State}
+use Rattle.emulator.specs.declared.Location.{Location}
+use Rattle.emulator.specs.declared.Location.the-variants.{At, Nowhere}
 
 -- the part of the code's state that an accepted call writes
 pub data Writes : Type 0 where
   nothing everything mappings registers runState : Writes
-  -- the register of a row
-  register : ℕ → Writes
+  -- the register of a row, to a value
+  register : ℕ → List ℕ → Writes
 
 unfoldable pub requestWrites : Request → Writes
 requestWrites getApiVersion = nothing
@@ -41,21 +46,31 @@ unfoldable pub entryWrites : Option Entry → Writes
 entryWrites none = nothing
 entryWrites (some r) = requestWrites (r .request)
 
-unfoldable pub writes : Call → Writes
-writes powerOn = everything
-writes (request target number) = entryWrites (identify target number)
-writes (lookUp d) = nothing
-writes (deviceRead d) = nothing
-writes (deviceWrite d) = nothing
-writes (hostWrite a) = nothing
-writes (hostRead a) = nothing
-writes (invalidate a n) = nothing
-writes (setRegister kind selector) = register (rowOf kind selector)
-writes (readRegister kind selector) = nothing
-writes loadParts = registers
-writes saveParts = nothing
-writes stop = runState
-writes start = runState
+unfoldable pub writes : Call → List ℕ → Writes
+writes powerOn buf = everything
+writes (request target number) buf = entryWrites (identify target number)
+writes (lookUp d) buf = nothing
+writes (deviceRead d) buf = nothing
+writes (deviceWrite d) buf = nothing
+writes (hostWrite a) buf = nothing
+writes (hostRead a) buf = nothing
+writes (invalidate a n) buf = nothing
+writes (setRegister kind selector) buf = register (rowOf kind selector) buf
+writes (readRegister kind selector) buf = nothing
+writes loadParts buf = registers
+writes saveParts buf = nothing
+writes stop buf = runState
+writes start buf = runState
+
+-- the code's state with another part
+abbrev pub withTableIn : Table → State → State
+withTableIn t s = record { «memory_length» = s .«memory_length»; table = t; registers = s .registers; running = s .running }
+
+abbrev pub withRegistersIn : Registers → State → State
+withRegistersIn r s = record { «memory_length» = s .«memory_length»; table = s .table; registers = r; running = s .running }
+
+abbrev pub withRunningIn : Bool → State → State
+withRunningIn running s = record { «memory_length» = s .«memory_length»; table = s .table; registers = s .registers; running = running }
 
 -- The code's state once `k` is written to that part of `s`: what document 01 leaves free, entries past the count and what stands behind
 -- a register's value, is as `holding` and `registerOf` say where it is written, and else as it was.
@@ -68,19 +83,10 @@ written everything k s =
       registers = record { slots = slotsOf (k .registers) };
       running = k .running;
     }
-written mappings k s =
-    record { «memory_length» = s .«memory_length»; table = holding (k .mappings) (s .table); registers = s .registers; running = s .running }
-written registers k s =
-    record { «memory_length» = s .«memory_length»; table = s .table; registers = record { slots = slotsOf (k .registers) }; running = s .running }
-written runState k s =
-    record { «memory_length» = s .«memory_length»; table = s .table; registers = s .registers; running = k .running }
-written (register i) k s =
-    record {
-      «memory_length» = s .«memory_length»;
-      table = s .table;
-      registers = record { slots = set (s .registers .slots) (i - 1) (registerOf (current (k .registers) i)) };
-      running = s .running;
-    }
+written mappings k s = withTableIn (holding (k .mappings) (s .table)) s
+written registers k s = withRegistersIn (record { slots = slotsOf (k .registers) }) s
+written runState k s = withRunningIn (k .running) s
+written (register i v) k s = withRegistersIn (record { slots = set (s .registers .slots) (i - 1) (registerOf (some v)) }) s
 
 -- a refused call returns the state that it was given, field by field
 unfoldable pub returned : Verdict → Writes → Machine → State → State
@@ -93,4 +99,18 @@ pub record Meets (c : Call) (buf : List ℕ) (s : State) (m : Memory) (r : Answe
   pub answer : r ≡ outcome c buf (emulatorOf s m) .answer
   pub buffer : buf′ ≡ filled (outcome c buf (emulatorOf s m) .effect .pieces) buf
   pub memory : m′ ≡ edited (outcome c buf (emulatorOf s m) .effect .edits) m
-  pub state : s′ ≡ returned (checks c buf (emulatorOf s m)) (writes c) (outcome c buf (emulatorOf s m) .effect .machine) s
+  pub state : s′ ≡ returned (checks c buf (emulatorOf s m)) (writes c buf) (outcome c buf (emulatorOf s m) .effect .machine) s
+
+-- document 01's number and values for each case of the code's answers
+abbrev pub told : Told → Answer Result
+told (Done result) = done (value result)
+told (Refused code place) = refused code place
+
+abbrev pub toldLocation : Location → Answer Result
+toldLocation (At a rights) = done (location a rights)
+toldLocation (Nowhere code place) = refused code place
+
+-- the call that leaves the device running, or stopped
+abbrev pub runCall : Bool → Call
+runCall true = start
+runCall false = stop

@@ -1,6 +1,20 @@
-// The emulator: the state that is kept between calls.
+// The emulator: every call of document 01. None asks anything of its caller; each contract determines the answer, every lent byte and
+// the state that is returned.
+use address::DeviceAddress;
+use address::MemoryAddress;
+use answer::Answer;
+use answer::Verdict;
 use iommu::Table;
+use iommu::Translation;
 use registers::Registers;
+ghost use mathlib.Core.Path.{_≡_};
+ghost use mathlib.Core.List.{List, []};
+ghost use Prim.Native.Nat.{ℕ};
+ghost use Rattle.memory.specs.Memory.{Memory, memoryOf};
+ghost use Rattle.emulator.specs.Machine.{machineOf, emulatorOf, both, sound as soundMachine, lendable as canLend, usable as canUse};
+ghost use Rattle.emulator.specs.Calls.{powerOn, lookUp, hostWrite, hostRead, setRegister, readRegister};
+ghost use Rattle.emulator.specs.Calls as calls;
+ghost use Rattle.emulator.specs.Contract.{Meets, told, toldLocation, runCall, withRegistersIn, withRunningIn};
 
 // The state that a caller keeps between calls: the length of memory noted at power on, the mapping table, the device's registers and
 // whether the device runs. Any values may stand in it: each call says whether they make a sound state.
@@ -10,4 +24,253 @@ pub struct State {
     pub table: Table,
     pub registers: Registers,
     pub running: bool,
+}
+
+// An answer, and the state to keep.
+pub struct Reply {
+    pub answer: Answer,
+    pub state: State,
+}
+
+// What look-up answers: memory address and rights, or a refusal's number and place.
+pub enum Location {
+    At(MemoryAddress, u32),
+    Nowhere(u32, u64),
+}
+
+// Whether a kept state is sound.
+pub fn sound(state: State) -> bool
+    ensures { λ r. ⌜ r ≡ soundMachine (machineOf state) ⌝ }
+{
+    let length = state.memory_length;
+    if address::MEMORY_LIMIT < length {
+        return false;
+    }
+    let table = state.table;
+    if !iommu::sound(table, length) {
+        return false;
+    }
+    let registers = state.registers;
+    registers::sound(registers)
+}
+
+// Whether memory and marks, by their lengths, can be lent.
+fn lendable(bytes: &[u8], shadow: &[u8]) -> bool
+    ensures { λ r. ⌜ r ≡ canLend (memoryOf (now (bytes .entry)) (now (shadow .entry))) ⌝ }
+{
+    if shadow.len() != bytes.len() {
+        return false;
+    }
+    bytes.len() as u64 <= address::MEMORY_LIMIT
+}
+
+// Whether a call that is given memory, marks and state may use them.
+fn usable(state: State, bytes: &[u8], shadow: &[u8]) -> bool
+    ensures { λ r. ⌜ r ≡ canUse both (emulatorOf state (memoryOf (now (bytes .entry)) (now (shadow .entry)))) ⌝ }
+{
+    if !lendable(bytes, shadow) {
+        return false;
+    }
+    if bytes.len() as u64 != state.memory_length {
+        return false;
+    }
+    sound(state)
+}
+
+// Fresh start: all marks cleared, memory left as it is, its length noted; an empty table, and the device stopped and reset.
+pub fn power_on(state: State, bytes: &[u8], shadow: &mut [u8]) -> Reply
+    ensures { λ r. ⌜ Meets powerOn [] state (memoryOf (now (bytes .entry)) (now (shadow .entry))) (told (r .answer)) [] (memoryOf (now (bytes .entry)) (now (shadow .exit))) (r .state) ⌝ }
+{
+    if !lendable(bytes, shadow) {
+        return Reply {
+            answer: Answer::Refused(answer::BAD_BENCH, 0),
+            state,
+        };
+    }
+    let n = shadow.len();
+    memory::clear(shadow, 0, n);
+    let mut next = state;
+    next.memory_length = bytes.len() as u64;
+    next.table.count = 0;
+    let registers = registers::reset();
+    next.registers = registers;
+    next.running = false;
+    Reply {
+        answer: Answer::Done(0),
+        state: next,
+    }
+}
+
+// Look-up: where a device address lies in memory, and with which rights.
+pub fn look_up(state: State, d: DeviceAddress) -> Location
+    ensures { λ r. ⌜ ((m : Memory) → Meets (lookUp d) [] state m (toldLocation r) [] m state) ⌝ }
+{
+    if !sound(state) {
+        return Location::Nowhere(answer::BAD_BENCH, 0);
+    }
+    if address::DEVICE_LIMIT <= d.0 {
+        return Location::Nowhere(answer::RANGE, 0);
+    }
+    let table = state.table;
+    let found = iommu::translate(table, d);
+    match found {
+        Translation::At(a, rights) => Location::At(a, rights),
+        Translation::Nowhere => Location::Nowhere(answer::UNMAPPED, 0),
+    }
+}
+
+// Host store: `buf` goes to memory from `a` on, and its bytes are written.
+pub fn host_write(
+    state: State,
+    bytes: &mut [u8],
+    shadow: &mut [u8],
+    a: MemoryAddress,
+    buf: &[u8],
+) -> Answer
+    ensures { λ r. ⌜ Meets (hostWrite a) (now (buf .entry)) state (memoryOf (now (bytes .entry)) (now (shadow .entry))) (told r) (now (buf .entry)) (memoryOf (now (bytes .exit)) (now (shadow .exit))) state ⌝ }
+{
+    if !usable(state, bytes, shadow) {
+        return Answer::Refused(answer::BAD_BENCH, 0);
+    }
+    let n = buf.len();
+    let verdict = memory::check_host_write(bytes.len() as u64, a, n);
+    match verdict {
+        Verdict::Fail(code, place) => Answer::Refused(code, place),
+        Verdict::Pass => {
+            let at = a.0 as usize;
+            memory::store(bytes, shadow, at, buf, 0, n);
+            Answer::Done(0)
+        }
+    }
+}
+
+// Host load: the whole of `buf` is filled from memory at `a`.
+pub fn host_read(
+    state: State,
+    bytes: &[u8],
+    shadow: &[u8],
+    a: MemoryAddress,
+    buf: &mut [u8],
+) -> Answer
+    ensures { λ r. ⌜ Meets (hostRead a) (now (buf .entry)) state (memoryOf (now (bytes .entry)) (now (shadow .entry))) (told r) (now (buf .exit)) (memoryOf (now (bytes .entry)) (now (shadow .entry))) state ⌝ }
+{
+    if !usable(state, bytes, shadow) {
+        return Answer::Refused(answer::BAD_BENCH, 0);
+    }
+    let n = buf.len();
+    let verdict = memory::check_host_read(shadow, a, n);
+    match verdict {
+        Verdict::Fail(code, place) => Answer::Refused(code, place),
+        Verdict::Pass => {
+            let at = a.0 as usize;
+            wire::copy(buf, 0, bytes, at, n);
+            Answer::Done(0)
+        }
+    }
+}
+
+// Forget: the marks of `n` bytes from `a` on are cleared; the bytes stay.
+pub fn invalidate(state: State, bytes: &[u8], shadow: &mut [u8], a: MemoryAddress, n: u64) -> Answer
+    ensures { λ r. ⌜ Meets (calls.invalidate a n) [] state (memoryOf (now (bytes .entry)) (now (shadow .entry))) (told r) [] (memoryOf (now (bytes .entry)) (now (shadow .exit))) state ⌝ }
+{
+    if !usable(state, bytes, shadow) {
+        return Answer::Refused(answer::BAD_BENCH, 0);
+    }
+    let verdict = memory::check_invalidate(bytes.len() as u64, a, n);
+    match verdict {
+        Verdict::Fail(code, place) => Answer::Refused(code, place),
+        Verdict::Pass => {
+            memory::clear(shadow, a.0 as usize, n as usize);
+            Answer::Done(0)
+        }
+    }
+}
+
+// Sets the register of a type and a selector number to the value `v`.
+pub fn set_register(state: State, kind: u64, selector: u64, v: &[u8]) -> Reply
+    ensures { λ r. ⌜ ((m : Memory) → Meets (setRegister kind selector) (now (v .entry)) state m (told (r .answer)) (now (v .entry)) m (r .state)) ⌝ }
+{
+    if !sound(state) {
+        return Reply {
+            answer: Answer::Refused(answer::BAD_BENCH, 0),
+            state,
+        };
+    }
+    let verdict = registers::check_set(kind, selector, v);
+    match verdict {
+        Verdict::Fail(code, place) => Reply {
+            answer: Answer::Refused(code, place),
+            state,
+        },
+        Verdict::Pass => {
+            let registers = state.registers;
+            let next = registers::set(registers, kind, selector, v);
+            Reply {
+                answer: Answer::Done(0),
+                state: with_registers(state, next),
+            }
+        }
+    }
+}
+
+// Reads the register of a type and a selector number: its value goes to the buffer's start, and its length is the result.
+pub fn read_register(state: State, kind: u64, selector: u64, buf: &mut [u8]) -> Answer
+    ensures { λ r. ⌜ ((m : Memory) → Meets (readRegister kind selector) (now (buf .entry)) state m (told r) (now (buf .exit)) m state) ⌝ }
+{
+    if !sound(state) {
+        return Answer::Refused(answer::BAD_BENCH, 0);
+    }
+    let registers = state.registers;
+    let verdict = registers::check_read(registers, kind, selector, buf.len());
+    match verdict {
+        Verdict::Fail(code, place) => Answer::Refused(code, place),
+        Verdict::Pass => {
+            let n = registers::read(registers, kind, selector, buf);
+            Answer::Done(n as u64)
+        }
+    }
+}
+
+fn with_registers(state: State, registers: Registers) -> State
+    ensures { λ r. ⌜ r ≡ withRegistersIn registers state ⌝ }
+{
+    let mut next = state;
+    next.registers = registers;
+    next
+}
+
+fn with_running(state: State, running: bool) -> State
+    ensures { λ r. ⌜ r ≡ withRunningIn running state ⌝ }
+{
+    let mut next = state;
+    next.running = running;
+    next
+}
+
+// Stop and start set the running state, whatever it was.
+fn set_running(state: State, running: bool) -> Reply
+    ensures { λ r. ⌜ ((m : Memory) → Meets (runCall running) [] state m (told (r .answer)) [] m (r .state)) ⌝ }
+{
+    if !sound(state) {
+        return Reply {
+            answer: Answer::Refused(answer::BAD_BENCH, 0),
+            state,
+        };
+    }
+    Reply {
+        answer: Answer::Done(0),
+        state: with_running(state, running),
+    }
+}
+
+pub fn stop(state: State) -> Reply
+    ensures { λ r. ⌜ ((m : Memory) → Meets calls.stop [] state m (told (r .answer)) [] m (r .state)) ⌝ }
+{
+    set_running(state, false)
+}
+
+pub fn start(state: State) -> Reply
+    ensures { λ r. ⌜ ((m : Memory) → Meets calls.start [] state m (told (r .answer)) [] m (r .state)) ⌝ }
+{
+    set_running(state, true)
 }

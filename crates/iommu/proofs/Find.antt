@@ -10,8 +10,9 @@ use borrow.Author.Tests.{leb-true, ltb-true, lt-ltb}
 use Rattle.answer.specs.Tests.{_and_, pick}
 use Rattle.answer.proofs.Tests.{and-true, or-false}
 use Rattle.address.specs.declared.DeviceAddress.{DeviceAddress}
-use Rattle.iommu.specs.Table.{end, holds, addressIn, translate, soundMapping, soundFrom, touches, anyOf, overlaps, insert, without}
+use Rattle.iommu.specs.Table.{end, holds, addressIn, translate, soundFrom, touches, anyOf, overlaps, insert, without}
 use Rattle.iommu.specs.declared.Mapping.{Mapping}
+use Rattle.iommu.proofs.Soundness.{sound-split}
 use Rattle.iommu.specs.declared.Translation.{Translation}
 use Rattle.iommu.specs.declared.Translation.the-variants.{At, Nowhere}
 
@@ -121,14 +122,6 @@ pub without-find : (test : Mapping → Bool) (ms ns : List Mapping) → Apart ms
 without-find test ms ns a b e d = find-without test ms a d ∙ ap (unlessIt test) (e d) ∙ sym (find-without test ns b d)
 
 -- ---- a sound table is apart
-
-sound-split : (size low : ℕ) (m : Mapping) (ms : List Mapping) → soundFrom size low (m ∷ ms) ≡ true
-    → (low ≤ m .device .0) × (soundMapping size m ≡ true) × (soundFrom size (end m) ms ≡ true)
-unfolding soundFrom
-sound-split size low m ms e =
-    let r = and-true _ _ e in
-    let s = and-true _ _ (r .0) in
-    (leb-true _ _ (s .0), s .1, r .1)
 
 below-none : (size low : ℕ) (ms : List Mapping) → soundFrom size low ms ≡ true → (d : DeviceAddress) → d .0 < low → find ms d ≡ none
 unfolding find pick

@@ -1,0 +1,85 @@
+-- What host store, host load and forget have to answer and leave, by what is known where they return.
+use Prim.Native.Nat.{ℕ, _+_, _≤_}
+use native.Mathlib.Omega.{arith}
+use mathlib.Core.Path.{_≡_, refl, sym, _∙_, ap}
+use mathlib.Core.Bool.{true, false}
+use mathlib.Core.List.{List, []}
+use lib.ListN.{length}
+use lib.Seq.{sets, take-length}
+use borrow.Author.Tests.{leb-true}
+use Rattle.answer.specs.Answer.{done, refused}
+use Rattle.answer.specs.declared.Verdict.{Verdict}
+use Rattle.answer.specs.declared.Verdict.the-variants.{Pass, Fail}
+use Rattle.answer.proofs.Checks.{then-pass, unless-pass}
+use Rattle.address.specs.Address.{inMemoryRange}
+use Rattle.address.specs.declared.MemoryAddress.{MemoryAddress}
+use Rattle.wire.specs.Field.{part}
+use Rattle.memory.specs.Memory.{Memory, edited, stores, clears, bytesFrom}
+use Rattle.memory.specs.Transfers.{hostWriteChecks, hostReadChecks, invalidateChecks}
+use Rattle.emulator.specs.Machine.{both, usable, emulatorOf}
+use Rattle.emulator.specs.Effect.{value, filled}
+use Rattle.emulator.specs.Calls.{hostWrite, hostRead, invalidate, given, ownChecks, effect}
+use Rattle.emulator.specs.Contract.{writes, written, Meets}
+use Rattle.emulator.specs.declared.State.{State}
+use Rattle.emulator.proofs.Meets.{refused-by, accepted}
+use Rattle.emulator.proofs.Soundness.{Ready, ready}
+
+-- a range that passed its checks lies in memory, and in its marks
+module _ (a : MemoryAddress) (n : ℕ) (s : State) (m : Memory) (good : usable both (emulatorOf s m) ≡ true) where
+  pub write-room : hostWriteChecks (length (m .bytes)) a (n) ≡ Pass → (a .0 + n ≤ length (m .bytes)) × (a .0 + n ≤ length (m .shadow))
+  unfolding hostWriteChecks inMemoryRange
+  write-room e =
+      let room = leb-true _ _ (unless-pass _ _ (then-pass _ _ e .1)) in
+      (room, omega (arith, ready s m good .level))
+
+  pub read-room : hostReadChecks (length (m .shadow)) (m .shadow) a (n) ≡ Pass → a .0 + n ≤ length (m .bytes)
+  unfolding hostReadChecks inMemoryRange
+  read-room e =
+      let room : a .0 + n ≤ length (m .shadow) = leb-true _ _ (unless-pass _ _ (then-pass _ _ (then-pass _ _ e .1) .0)) in
+      omega (arith, ready s m good .level)
+
+  pub clear-room : invalidateChecks (length (m .bytes)) a n ≡ Pass → a .0 + n ≤ length (m .shadow)
+  unfolding invalidateChecks inMemoryRange
+  clear-room e =
+      let room : a .0 + n ≤ length (m .bytes) = leb-true _ _ (unless-pass _ _ e) in
+      omega (arith, ready s m good .level)
+
+module _ (a : MemoryAddress) (buf : List ℕ) (s : State) (m : Memory) (good : usable both (emulatorOf s m) ≡ true) where
+  -- ---- host store
+
+  pub write-refused : (code place : ℕ) → hostWriteChecks (length (m .bytes)) a (length buf) ≡ Fail code place
+      → Meets (hostWrite a) buf s m (refused code place) buf m s
+  unfolding given ownChecks emulatorOf
+  write-refused code place e = refused-by (hostWrite a) buf s m code place good e
+
+  pub write-done : (m′ : Memory) → hostWriteChecks (length (m .bytes)) a (length buf) ≡ Pass → m′ ≡ edited (stores a (part buf 0 (length buf))) m
+      → Meets (hostWrite a) buf s m (done (value 0)) buf m′ s
+  unfolding given ownChecks effect emulatorOf writes written filled
+  write-done m′ e f = accepted (hostWrite a) buf s m buf m′ s good e refl (f ∙ ap (λ (l : List ℕ). edited (stores a l) m) (take-length buf)) refl
+
+  -- ---- host load
+
+  -- marks and memory have one length
+  same-checks : hostReadChecks (length (m .bytes)) (m .shadow) a (length buf) ≡ hostReadChecks (length (m .shadow)) (m .shadow) a (length buf)
+  same-checks = rw (ready s m good .level)
+
+  pub read-refused : (code place : ℕ) → hostReadChecks (length (m .shadow)) (m .shadow) a (length buf) ≡ Fail code place
+      → Meets (hostRead a) buf s m (refused code place) buf m s
+  unfolding given ownChecks emulatorOf
+  read-refused code place e = refused-by (hostRead a) buf s m code place good (same-checks ∙ e)
+
+  pub read-done : (out : List ℕ) → hostReadChecks (length (m .shadow)) (m .shadow) a (length buf) ≡ Pass → out ≡ sets buf 0 (part (m .bytes) (a .0) (length buf))
+      → Meets (hostRead a) buf s m (done (value 0)) out m s
+  unfolding given ownChecks effect emulatorOf writes written filled edited bytesFrom
+  read-done out e f = accepted (hostRead a) buf s m out m s good (same-checks ∙ e) f refl refl
+
+-- ---- forget
+
+module _ (a : MemoryAddress) (n : ℕ) (s : State) (m : Memory) (good : usable both (emulatorOf s m) ≡ true) where
+  pub clear-refused : (code place : ℕ) → invalidateChecks (length (m .bytes)) a n ≡ Fail code place → Meets (invalidate a n) [] s m (refused code place) [] m s
+  unfolding given ownChecks emulatorOf
+  clear-refused code place e = refused-by (invalidate a n) [] s m code place good e
+
+  pub clear-done : (m′ : Memory) → invalidateChecks (length (m .bytes)) a n ≡ Pass → m′ ≡ edited (clears a n) m → Meets (invalidate a n) [] s m (done (value 0)) [] m′ s
+  unfolding given ownChecks effect emulatorOf writes written filled
+  clear-done m′ e f = accepted (invalidate a n) [] s m [] m′ s good e refl f refl

@@ -1,0 +1,86 @@
+-- Refusal 1, test by test.
+use Prim.Native.Nat.{ℕ, _≤_, _<_}
+use mathlib.Core.Path.{_≡_, refl, sym, _∙_}
+use mathlib.Core.Bool.{Bool, true, false}
+use mathlib.Core.List.{List}
+use lib.ListN.{length}
+use lib.Dec.{leb}
+use borrow.Author.Tests.{le-leb, lt-leb, eq-eqb, ne-eqb, leb-true, eqb-true}
+use Rattle.answer.specs.Tests.{_and_}
+use Rattle.answer.proofs.Tests.{and-true, first-not, second-not, third-is}
+use Rattle.address.specs.Address.{memoryLimit}
+use Rattle.iommu.specs.Table.{capacity, soundTable, inUse, Sound}
+use Rattle.iommu.proofs.Soundness.{sound-table}
+use Rattle.memory.specs.Shadow.{shadowLength}
+use Rattle.memory.specs.Memory.{Memory}
+use Rattle.registers.specs.File.{soundFile, fileOf}
+use Rattle.emulator.specs.Machine.{machineOf, emulatorOf, soundMappings, soundLength, sound, lendable, asNoted, both, usable}
+use Rattle.emulator.specs.declared.State.{State}
+
+-- ---- the kept state
+
+module _ (s : State) where
+  -- the table's test, as the code makes it
+  abbrev pub tableSound : Bool
+  tableSound = leb (s .table .count) capacity and soundTable (s .«memory_length») (inUse (s .table))
+
+  pub sound-long : memoryLimit < s .«memory_length» → false ≡ sound (machineOf s)
+  unfolding sound soundLength machineOf
+  sound-long h = first-not _ _ (lt-leb _ _ h)
+
+  module _ (short : s .«memory_length» ≤ memoryLimit) where
+    pub sound-not : tableSound ≡ false → false ≡ sound (machineOf s)
+    unfolding sound soundLength soundMappings machineOf
+    sound-not h = second-not _ (le-leb _ _ short) h
+
+    pub sound-rest : tableSound ≡ true → soundFile (fileOf (s .registers)) ≡ sound (machineOf s)
+    unfolding sound soundLength soundMappings machineOf
+    sound-rest h = third-is _ (le-leb _ _ short) h
+
+  -- what functions below may ask of the table
+  pub sound-ready : sound (machineOf s) ≡ true → Sound (s .table) × (s .«memory_length» ≤ memoryLimit)
+  unfolding sound soundLength soundMappings machineOf
+  sound-ready h =
+      let r = and-true _ _ (and-true _ _ h .0) in
+      let few = leb-true _ _ (r .0) in
+      (sound-table (s .table) (s .«memory_length») (r .1) few, few)
+
+-- ---- memory, marks and state
+
+module _ (s : State) (m : Memory) where
+  pub usable-not-lent : lendable m ≡ false → false ≡ usable both (emulatorOf s m)
+  unfolding usable emulatorOf
+  usable-not-lent h = first-not _ _ h
+
+  module _ (lent : lendable m ≡ true) where
+    pub usable-not-noted : (length (m .bytes) ≡ s .«memory_length» → ⊥) → false ≡ usable both (emulatorOf s m)
+    unfolding usable emulatorOf asNoted machineOf
+    usable-not-noted h = second-not _ lent (ne-eqb _ _ h)
+
+    pub usable-rest : length (m .bytes) ≡ s .«memory_length» → sound (machineOf s) ≡ usable both (emulatorOf s m)
+    unfolding usable emulatorOf asNoted machineOf
+    usable-rest h = third-is _ lent (eq-eqb _ _ h)
+
+  -- what a call that may use them knows
+  pub record Ready : Type 0 where
+    pub table : Sound (s .table)
+    pub noted : length (m .bytes) ≡ s .«memory_length»
+    pub level : length (m .shadow) ≡ length (m .bytes)
+    pub small : length (m .bytes) ≤ memoryLimit
+    pub mappings : soundTable (length (m .bytes)) (inUse (s .table)) ≡ true
+
+  pub ready : usable both (emulatorOf s m) ≡ true → Ready
+  unfolding usable emulatorOf asNoted lendable shadowLength machineOf sound soundLength soundMappings
+  ready h =
+      let r = and-true _ _ h in
+      let q = and-true _ _ (r .0) in
+      let l = and-true _ _ (q .0) in
+      let noted : length (m .bytes) ≡ s .«memory_length» = eqb-true _ _ (q .1) in
+      let t = and-true _ _ (and-true _ _ (r .1) .0) in
+      record {
+        table = sound-ready s (r .1) .0;
+        noted = noted;
+        level = eqb-true _ _ (l .0);
+        small = leb-true _ _ (l .1);
+        mappings = rw noted (and-true _ _ (t .1) .1);
+      }
