@@ -3,3 +3,4 @@ pub mod Find
 pub mod Passes
 pub mod Lookup
 pub mod Places
+pub mod Compaction

@@ -4,7 +4,7 @@ use native.Mathlib.Omega.{arith}
 use native.Mathlib.Numerals.{add-one}
 use mathlib.Core.Path.{_≡_, refl, sym, _∙_, ap}
 use mathlib.Core.Bool.{Bool, true, false}
-use mathlib.Core.List.{List, [], _∷_, map}
+use mathlib.Core.List.{List, [], _∷_, _++_, map}
 use lib.ListN.{length, getD, take, drop, length-take, length-map, drop-of-length-le}
 use lib.Seq.{drop-cons, getD-take, length-take-le}
 use Rattle.answer.proofs.Tests.{or-left}
@@ -12,7 +12,7 @@ use Rattle.answer.specs.Tests.{_or_}
 use Rattle.address.specs.Address.{memoryLimit}
 use Rattle.iommu.specs.declared.Mapping.{Mapping}
 use Rattle.iommu.specs.declared.Table.{Table}
-use Rattle.iommu.specs.Table.{capacity, anyOf, soundTable, inUse, Sound}
+use Rattle.iommu.specs.Table.{capacity, anyOf, soundTable, inUse, holding, Sound}
 use Rattle.iommu.proofs.Soundness.{Facts, sound-at}
 
 -- what an array of mappings reads as past its end
@@ -49,6 +49,14 @@ in-use-length t fits = length-take-le (t .count) (t .entries) fits
 pub in-use-end : (t : Table) (i : ℕ) → t .count ≤ i → drop i (inUse t) ≡ []
 unfolding inUse
 in-use-end t i h = drop-of-length-le (take (t .count) (t .entries)) {i = i} (omega (arith, length-take (t .count) (t .entries)))
+
+-- a table by its list of mappings, and what was held behind them
+pub holding-made : (ms : List Mapping) (t : Table) (entries : List Mapping) (count : ℕ) → length ms ≡ count → entries ≡ ms ++ drop count (t .entries)
+    → record { entries = entries; count = count } ≡ holding ms t
+unfolding holding
+holding-made ms t entries count n is = rw (n, is)
+
+-- ---- a pass
 
 -- a pass at index i: the value sought is `f` of the mappings still to come
 pub record Left {A : Type 0} (sought : A) (f : List Mapping → A) (t : Table) (i : ℕ) : Type 0 where

@@ -85,3 +85,20 @@ pub sound-at : (size low : ℕ) (ms : List Mapping) (i : ℕ) (none : Mapping) �
 sound-at size low [] i none e h = absurd (not-suc-le-zero h)
 sound-at size low (m ∷ ms) zero none e h = mapping-facts size m (sound-split size low m ms e .1)
 sound-at size low (m ∷ ms) (suc i) none e h = sound-at size (end m) ms i none (sound-split size low m ms e .2) (le-of-suc-le-suc h)
+
+-- the device addresses that a test picks lie apart, so that the sum of their sizes has a bound
+pub size-bound : (test : Mapping → Bool) (size low : ℕ) (ms : List Mapping) → low ≤ deviceLimit → soundFrom size low ms ≡ true → low + sizeOf test ms ≤ deviceLimit
+unfolding sizeOf
+size-bound test size low [] h e = omega arith
+size-bound test size low (m ∷ ms) h e =
+    let p = sound-split size low m ms e in
+    let f = mapping-facts size m (p .1) in
+    go (test m) (size-bound test size (end m) ms (f .below) (p .2)) (p .0)
+  where
+    go : (s : Bool) → end m + sizeOf test ms ≤ deviceLimit → low ≤ m .device .0 → low + (pick s (m .size) 0 + sizeOf test ms) ≤ deviceLimit
+    go true ih l = unfold pick in omega arith
+    go false ih l = unfold pick in omega arith
+
+pub size-limit : (test : Mapping → Bool) (size : ℕ) (ms : List Mapping) → soundTable size ms ≡ true → sizeOf test ms ≤ deviceLimit
+unfolding soundTable
+size-limit test size ms e = omega (arith, size-bound test size 0 ms (omega arith) e)

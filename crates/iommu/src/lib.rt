@@ -37,6 +37,12 @@ pub enum Translation {
     Nowhere,
 }
 
+// A table after a removal, and how many device addresses lost their mapping.
+pub struct Removed {
+    pub table: Table,
+    pub size: u64,
+}
+
 fn valid_rights(rights: u32) -> bool
     ensures { λ r. ⌜ r ≡ validRights rights ⌝ }
 {
@@ -266,4 +272,52 @@ fn place(table: Table, m: Mapping) -> usize
         i += 1;
     }
     i
+}
+
+// The table with one more mapping: the entries from its place on move up by one.
+pub fn insert(table: Table, m: Mapping) -> Table
+    requires { ⌜ (Sound table) × (table .count < capacity) ⌝ }
+    ensures { λ r. ⌜ r ≡ holding (inserted m (inUse table)) table ⌝ }
+{
+    let at = place(table, m);
+    let count = table.count;
+    let mut entries = table.entries;
+    let mut i = count;
+    while at < i {
+        let x = entries[i - 1];
+        entries[i] = x;
+        i -= 1;
+    }
+    entries[at] = m;
+    Table {
+        entries,
+        count: count + 1,
+    }
+}
+
+// The table without the mappings that lie wholly inside the `n` device addresses from `d` on, and the sum of their sizes.
+pub fn remove(table: Table, d: DeviceAddress, n: u64) -> Removed
+    requires { ⌜ (Sound table) × (d .0 + n ≤ deviceLimit) ⌝ }
+    ensures { λ r. ⌜ (r .table ≡ holding (without (within d n) (inUse table)) table) × (r .size ≡ sizeOf (within d n) (inUse table)) ⌝ }
+{
+    let count = table.count;
+    let mut entries = table.entries;
+    let mut kept: usize = 0;
+    let mut size: u64 = 0;
+    let mut i: usize = 0;
+    while i < count {
+        let m = entries[i];
+        if inside(d, n, m) {
+            size += m.size;
+        } else {
+            entries[kept] = m;
+            kept += 1;
+        }
+        i += 1;
+    }
+    let rest = Table {
+        entries,
+        count: kept,
+    };
+    Removed { table: rest, size }
 }
