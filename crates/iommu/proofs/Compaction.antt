@@ -11,7 +11,7 @@ use Rattle.answer.specs.Tests.{pick}
 use Rattle.iommu.specs.declared.Mapping.{Mapping}
 use Rattle.iommu.specs.declared.Table.{Table}
 use Rattle.iommu.specs.Table.{without, sizeOf, inUse, holding}
-use Rattle.iommu.proofs.Passes.{none, entry, holding-made, Left, pass-start, pass-on, pass-end, in-use-next}
+use Rattle.iommu.proofs.Passes.{blank, entry, holding-made, Left, pass-start, pass-on, pass-end, in-use-next}
 
 -- at index i: the first `kept` entries are those that stay of the entries before i, and `size` is the sum of the others' sizes
 pub record Compacted (test : Mapping → Bool) (t : Table) (entries : List Mapping) (kept size i : ℕ) : Type 0 where
@@ -27,16 +27,16 @@ compact-start test t fits =
 
 module _ {test : Mapping → Bool} {t : Table} {entries : List Mapping} {kept size i : ℕ} (p : Compacted test t entries kept size i) where
   -- what is read has not been overwritten
-  pub compact-read : getD entries i none ≡ entry t i
+  pub compact-read : getD entries i blank ≡ entry t i
   compact-read =
       let b = p .behind in
       let e : kept + (i - kept) ≡ i = omega arith in
-      rw (← e, ← getD-drop kept entries (i - kept) none, ← getD-drop kept (t .entries) (i - kept) none, p .rest)
+      rw (← e, ← getD-drop kept entries (i - kept) blank, ← getD-drop kept (t .entries) (i - kept) blank, p .rest)
 
   module _ (lt : i < t .count) where
     -- a mapping is removed
-    module _ (h : test (getD entries i none) ≡ true) where
-      pub compact-drop : Compacted test t entries kept (size + getD entries i none .size) (i + 1)
+    module _ (h : test (getD entries i blank) ≡ true) where
+      pub compact-drop : Compacted test t entries kept (size + getD entries i blank .size) (i + 1)
       unfolding without sizeOf pick
       compact-drop =
           let b = p .behind in
@@ -49,11 +49,11 @@ module _ {test : Mapping → Bool} {t : Table} {entries : List Mapping} {kept si
             sum = pass-on (p .sum) _ lt (λ ms. rw (g, compact-read) (omega arith));
           }
 
-      pub compact-fits : size + getD entries i none .size ≤ sizeOf test (inUse t)
+      pub compact-fits : size + getD entries i blank .size ≤ sizeOf test (inUse t)
       compact-fits = let s = compact-drop .sum .is in omega arith
 
     -- a mapping stays
-    pub compact-keep : test (getD entries i none) ≡ false → Compacted test t (set entries kept (getD entries i none)) (kept + 1) size (i + 1)
+    pub compact-keep : test (getD entries i blank) ≡ false → Compacted test t (set entries kept (getD entries i blank)) (kept + 1) size (i + 1)
     unfolding without sizeOf pick
     compact-keep h =
         let b = p .behind in

@@ -1,6 +1,7 @@
 pub mod Soundness
 pub mod Find
 pub mod Passes
-pub mod Lookup
 pub mod Places
 pub mod Compaction
+pub mod Changes
+pub mod Lookup

@@ -16,8 +16,8 @@ use Rattle.iommu.specs.Table.{capacity, anyOf, soundTable, inUse, holdin
 use Rattle.iommu.proofs.Soundness.{Facts, sound-at}
 
 -- what an array of mappings reads as past its end
-abbrev pub none : Mapping
-none = record { device = record { 0 = 0 }; memory = record { 0 = 0 }; size = 0; rights = 0 }
+abbrev pub blank : Mapping
+blank = record { device = record { 0 = 0 }; memory = record { 0 = 0 }; size = 0; rights = 0 }
 
 -- an array of structs: owning it tells the length of what its list maps to (for `search (needs, length-mapped)`)
 pub length-mapped : (X Y : Type 0) (f : X → Y) (l : List X) (n : ℕ) → length (map f l) ≡ n → length l ≡ n
@@ -25,22 +25,22 @@ length-mapped X Y f l n e = sym (length-map l f) ∙ e
 
 -- what is read at an index
 abbrev pub entry : Table → ℕ → Mapping
-entry t i = getD (t .entries) i none
+entry t i = getD (t .entries) i blank
 
 module _ (t : Table) (i : ℕ) (lt : i < t .count) (fits : t .count ≤ length (t .entries)) where
   -- it is the first of the mappings from there on
   pub in-use-next : drop i (inUse t) ≡ entry t i ∷ drop (i + 1) (inUse t)
   unfolding inUse
   in-use-next =
-      rw add-one (drop-cons (take (t .count) (t .entries)) i none (omega (arith, length-take-le (t .count) (t .entries) fits))
-      ∙ ap (λ (m : Mapping). m ∷ drop (suc i) (take (t .count) (t .entries))) (getD-take (t .count) (t .entries) i none lt))
+      rw add-one (drop-cons (take (t .count) (t .entries)) i blank (omega (arith, length-take-le (t .count) (t .entries) fits))
+      ∙ ap (λ (m : Mapping). m ∷ drop (suc i) (take (t .count) (t .entries))) (getD-take (t .count) (t .entries) i blank lt))
 
   -- and sound, where the table is
   pub entry-facts : Sound t → Facts memoryLimit (entry t i)
   unfolding inUse soundTable
   entry-facts s =
-      rw (getD-take (t .count) (t .entries) i none lt) at
-      (sound-at memoryLimit 0 (take (t .count) (t .entries)) i none (s .table) (omega (arith, length-take-le (t .count) (t .entries) fits)))
+      rw (getD-take (t .count) (t .entries) i blank lt) at
+      (sound-at memoryLimit 0 (take (t .count) (t .entries)) i blank (s .table) (omega (arith, length-take-le (t .count) (t .entries) fits)))
 
 pub in-use-length : (t : Table) → t .count ≤ length (t .entries) → length (inUse t) ≡ t .count
 unfolding inUse

@@ -13,7 +13,7 @@ use Rattle.answer.proofs.Tests.{pick-true, pick-false}
 use Rattle.iommu.specs.declared.Mapping.{Mapping}
 use Rattle.iommu.specs.declared.Table.{Table}
 use Rattle.iommu.specs.Table.{insert, inUse, holding}
-use Rattle.iommu.proofs.Passes.{none, entry, Left, in-use-next, in-use-end, in-use-length, holding-made, pass-on}
+use Rattle.iommu.proofs.Passes.{blank, entry, Left, in-use-next, in-use-end, in-use-length, holding-made, pass-on}
 
 -- ---- the pass for the place
 
@@ -27,7 +27,7 @@ module _ (m : Mapping) {t : Table} {i : ℕ} (p : Placed m t i) where
   place-on lt le =
       pass-on p (λ ms. take (i + 1) (inUse t) ++ insert m ms) lt
       (λ ms.
-      rw (add-one, take-suc (inUse t) i none (omega (arith, in-use-length t (p .fits))), getD-take (t .count) (t .entries) i none lt, append-snoc)
+      rw (add-one, take-suc (inUse t) i blank (omega (arith, in-use-length t (p .fits))), getD-take (t .count) (t .entries) i blank lt, append-snoc)
       (ap (λ (l : List Mapping). take i (inUse t) ++ l) (pick-false _ _ _ (le-ltb _ _ le))))
 
   here : insert m (drop i (inUse t)) ≡ m ∷ drop i (inUse t) → (i ≤ t .count) × (insert m (inUse t) ≡ take i (inUse t) ++ m ∷ drop i (inUse t))
@@ -56,22 +56,22 @@ shift-start t room =
       few = omega arith;
       room = room;
       gap = entry t (t .count);
-      is = rw (in-use-end t (t .count) (omega arith), add-one) (split-at (t .entries) (t .count) none room);
+      is = rw (in-use-end t (t .count) (omega arith), add-one) (split-at (t .entries) (t .count) blank room);
     }
 
 module _ {t : Table} {entries : List Mapping} {i : ℕ} (s : Shifted t entries i) where
   -- an entry before i has not moved yet
-  pub shift-read : (j : ℕ) → j < i → getD entries j none ≡ entry t j
+  pub shift-read : (j : ℕ) → j < i → getD entries j blank ≡ entry t j
   shift-read j lt =
       let n : length (take i (t .entries)) ≡ i = length-take-le i (t .entries) (let f = s .few in let r = s .room in omega arith) in
-      ap (λ (l : List Mapping). getD l j none) (s .is) ∙ List·getD-append (take i (t .entries)) _ none j (omega arith) ∙ getD-take i (t .entries) j none lt
+      ap (λ (l : List Mapping). getD l j blank) (s .is) ∙ List·getD-append (take i (t .entries)) _ blank j (omega arith) ∙ getD-take i (t .entries) j blank lt
 
   shift-set : (m : Mapping) → set entries i m ≡ take i (t .entries) ++ m ∷ (drop i (inUse t) ++ drop (t .count + 1) (t .entries))
   shift-set m =
       ap (λ (l : List Mapping). set l i m) (s .is) ∙ set-at (take i (t .entries)) (s .gap) _ m i (length-take-le i (t .entries) (let f = s .few in let r = s .room in omega arith))
 
   -- the entry before i moves to i
-  pub shift-on : (j : ℕ) → i ≡ suc j → Shifted t (set entries i (getD entries j none)) j
+  pub shift-on : (j : ℕ) → i ≡ suc j → Shifted t (set entries i (getD entries j blank)) j
   shift-on j e =
       let f = s .few in
       let r = s .room in
@@ -79,8 +79,8 @@ module _ {t : Table} {entries : List Mapping} {i : ℕ} (s : Shifted t entries i
         few = omega arith;
         room = s .room;
         gap = entry t j;
-        is = shift-set (getD entries j none)
-            ∙ rw (shift-read j (omega arith), e, take-suc (t .entries) j none (omega arith), append-snoc, in-use-next t j (omega arith) (omega arith), add-one j);
+        is = shift-set (getD entries j blank)
+            ∙ rw (shift-read j (omega arith), e, take-suc (t .entries) j blank (omega arith), append-snoc, in-use-next t j (omega arith) (omega arith), add-one j);
       }
 
   -- the new mapping takes its place

@@ -81,10 +81,10 @@ sound-table t size e h =
     record { few = leb-true _ _ (p .0); table = sound-wider size memoryLimit 0 0 (inUse t) h (omega arith) (p .1) }
 
 -- each of its mappings is sound
-pub sound-at : (size low : ℕ) (ms : List Mapping) (i : ℕ) (none : Mapping) → soundFrom size low ms ≡ true → i < length ms → Facts size (getD ms i none)
-sound-at size low [] i none e h = absurd (not-suc-le-zero h)
-sound-at size low (m ∷ ms) zero none e h = mapping-facts size m (sound-split size low m ms e .1)
-sound-at size low (m ∷ ms) (suc i) none e h = sound-at size (end m) ms i none (sound-split size low m ms e .2) (le-of-suc-le-suc h)
+pub sound-at : (size low : ℕ) (ms : List Mapping) (i : ℕ) (blank : Mapping) → soundFrom size low ms ≡ true → i < length ms → Facts size (getD ms i blank)
+sound-at size low [] i blank e h = absurd (not-suc-le-zero h)
+sound-at size low (m ∷ ms) zero blank e h = mapping-facts size m (sound-split size low m ms e .1)
+sound-at size low (m ∷ ms) (suc i) blank e h = sound-at size (end m) ms i blank (sound-split size low m ms e .2) (le-of-suc-le-suc h)
 
 -- the device addresses that a test picks lie apart, so that the sum of their sizes has a bound
 pub size-bound : (test : Mapping → Bool) (size low : ℕ) (ms : List Mapping) → low ≤ deviceLimit → soundFrom size low ms ≡ true → low + sizeOf test ms ≤ deviceLimit
