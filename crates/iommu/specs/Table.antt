@@ -6,7 +6,7 @@ use mathlib.Core.List.{List, [], _∷_, _++_}
 use lib.Dec.{leb, ltb, eqb}
 use lib.ListN.{length, take, drop}
 use Rattle.answer.specs.Tests.{_and_, _or_, pick}
-use Rattle.address.specs.Address.{memoryLimit, memoryOffset, aligned, inDeviceRange, inMemoryRange}
+use Rattle.address.specs.Address.{deviceLimit, memoryLimit, memoryOffset, aligned, inDeviceRange, inMemoryRange}
 use Rattle.address.specs.declared.DeviceAddress.{DeviceAddress}
 use Rattle.address.specs.declared.MemoryAddress.{MemoryAddress}
 use Rattle.iommu.specs.declared.Mapping.{Mapping}
@@ -83,6 +83,11 @@ touches d n m = ltb (d .0) (end m) and ltb (m .device .0) (d .0 + n)
 -- a mapping lies wholly inside the range
 unfoldable pub inside : DeviceAddress → ℕ → Mapping → Bool
 inside d n m = leb (d .0) (m .device .0) and leb (end m) (d .0 + n)
+
+-- what the tests above may ask where they are made: neither sum leaves 64 bits
+pub record Bounded (d : DeviceAddress) (n : ℕ) (m : Mapping) : Type 0 where
+  pub mapping : end m ≤ deviceLimit
+  pub range : d .0 + n ≤ deviceLimit
 
 -- the test holds of some mapping
 unfoldable pub anyOf : (Mapping → Bool) → List Mapping → Bool

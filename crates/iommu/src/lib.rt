@@ -7,7 +7,7 @@ ghost use lib.Dec.{leb};
 ghost use lib.ListN.{take, drop};
 ghost use Rattle.answer.specs.Tests.{_and_};
 ghost use Rattle.address.specs.Address.{deviceLimit, aligned};
-ghost use Rattle.iommu.specs.Table.{capacity, end, holds as held, translate as translated, validRights, alignedMapping, inRange, soundMapping, soundTable, touches as touched, inside as within, overlaps as overlapped, cuts as cut, insert as inserted, without, sizeOf, inUse, holding, Sound};
+ghost use Rattle.iommu.specs.Table.{capacity, holds as held, translate as translated, validRights, alignedMapping, inRange, soundMapping, soundTable, touches as touched, inside as within, overlaps as overlapped, cuts as cut, insert as inserted, without, sizeOf, inUse, holding, Sound, Bounded};
 ghost use Rattle.iommu.specs.Requests.{translateChecks, mapChecks, unmapChecks};
 use address::DeviceAddress;
 use address::MemoryAddress;
@@ -146,7 +146,7 @@ pub fn check_translate(table: Table, d: DeviceAddress) -> Verdict
 
 // Whether a mapping and the `n` device addresses from `d` on share an address. Neither sum leaves 64 bits.
 fn touches(d: DeviceAddress, n: u64, m: Mapping) -> bool
-    requires { ⌜ (end m ≤ deviceLimit) × (d .0 + n ≤ deviceLimit) ⌝ }
+    requires { ⌜ Bounded d n m ⌝ }
     ensures { λ r. ⌜ r ≡ touched d n m ⌝ }
 {
     d.0 < m.device.0 + m.size && m.device.0 < d.0 + n
@@ -154,7 +154,7 @@ fn touches(d: DeviceAddress, n: u64, m: Mapping) -> bool
 
 // Whether a mapping lies wholly inside the `n` device addresses from `d` on.
 fn inside(d: DeviceAddress, n: u64, m: Mapping) -> bool
-    requires { ⌜ (end m ≤ deviceLimit) × (d .0 + n ≤ deviceLimit) ⌝ }
+    requires { ⌜ Bounded d n m ⌝ }
     ensures { λ r. ⌜ r ≡ within d n m ⌝ }
 {
     d.0 <= m.device.0 && m.device.0 + m.size <= d.0 + n
@@ -162,7 +162,7 @@ fn inside(d: DeviceAddress, n: u64, m: Mapping) -> bool
 
 // Whether the `n` device addresses from `d` on hold some but not all of a mapping.
 fn cuts_one(d: DeviceAddress, n: u64, m: Mapping) -> bool
-    requires { ⌜ (end m ≤ deviceLimit) × (d .0 + n ≤ deviceLimit) ⌝ }
+    requires { ⌜ Bounded d n m ⌝ }
     ensures { λ r. ⌜ r ≡ (touched d n m and not (within d n m)) ⌝ }
 {
     touches(d, n, m) && !inside(d, n, m)

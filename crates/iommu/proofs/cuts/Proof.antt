@@ -1,23 +1,18 @@
 -- `iommu::cuts` meets its contract: a pass for some mapping of which the test holds.
-use Prim.Native.Nat.{ℕ, _-_, _≤_}
+use Prim.Native.Nat.{_-_}
 use native.Mathlib.Omega.{arith}
-use mathlib.Core.Bool.{Bool, not}
+use mathlib.Core.Bool.{not}
 use mathlib.Core.Path.{_≡_}
 use lib.ListN.{length}
 use Rattle.answer.specs.Tests.{_and_}
-use Rattle.address.specs.declared.DeviceAddress.{DeviceAddress}
-use Rattle.iommu.specs.declared.Mapping.{Mapping}
 use Rattle.iommu.specs.Table.{cuts, touches, inside}
 use Rattle.iommu.proofs.Passes.{Scanned, pass-start, scan-found, scan-on, scan-none, pass-facts, length-mapped}
 use borrow.Author.Needs.{needs}
 use Rattle.iommu.proofs.cuts.Statement.{statement}
 use Rattle.iommu.proofs.cuts.Tie as tie
 
-abbrev test : DeviceAddress → ℕ → Mapping → Bool
-test d n = λ m. touches d n m and not (inside d n m)
-
 abbrev Inv-loop : tie.InvT-loop
-Inv-loop d n table count i₀ i = Scanned (test d n) table i
+Inv-loop d n table count i₀ i = Scanned (λ m. touches d n m and not (inside d n m)) table i
 
 abbrev μ-loop : tie.MeasureT-loop
 μ-loop d n table count i₀ i = count - i
@@ -36,7 +31,7 @@ element-copy-out-m c = search needs
 cuts-one-requires : tie.Need-cuts-one-requires Inv-loop μ-loop
 cuts-one-requires c κs =
     let l = c .before .before in
-    (pass-facts (l .loop .inv) (c .before .loop-test .taken) (l .before .pre .0) .below, l .before .pre .1)
+    record { mapping = pass-facts (l .loop .inv) (c .before .loop-test .taken) (l .before .pre .0) .below; range = l .before .pre .1 }
 
 returns : tie.Need-returns Inv-loop μ-loop
 unfolding cuts

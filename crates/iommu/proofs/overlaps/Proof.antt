@@ -1,22 +1,16 @@
 -- `iommu::overlaps` meets its contract: a pass for some mapping of which the test holds.
-use Prim.Native.Nat.{ℕ, _-_, _≤_}
+use Prim.Native.Nat.{_-_}
 use native.Mathlib.Omega.{arith}
-use mathlib.Core.Bool.{Bool}
 use mathlib.Core.Path.{_≡_}
 use lib.ListN.{length}
-use Rattle.address.specs.declared.DeviceAddress.{DeviceAddress}
-use Rattle.iommu.specs.declared.Mapping.{Mapping}
 use Rattle.iommu.specs.Table.{overlaps, touches}
 use Rattle.iommu.proofs.Passes.{Scanned, pass-start, scan-found, scan-on, scan-none, pass-facts, length-mapped}
 use borrow.Author.Needs.{needs}
 use Rattle.iommu.proofs.overlaps.Statement.{statement}
 use Rattle.iommu.proofs.overlaps.Tie as tie
 
-abbrev test : DeviceAddress → ℕ → Mapping → Bool
-test d n = touches d n
-
 abbrev Inv-loop : tie.InvT-loop
-Inv-loop d n table count i₀ i = Scanned (test d n) table i
+Inv-loop d n table count i₀ i = Scanned (touches d n) table i
 
 abbrev μ-loop : tie.MeasureT-loop
 μ-loop d n table count i₀ i = count - i
@@ -35,7 +29,7 @@ element-copy-out-m c = search needs
 touches-requires : tie.Need-touches-requires Inv-loop μ-loop
 touches-requires c κs =
     let l = c .before .before in
-    (pass-facts (l .loop .inv) (c .before .loop-test .taken) (l .before .pre .0) .below, l .before .pre .1)
+    record { mapping = pass-facts (l .loop .inv) (c .before .loop-test .taken) (l .before .pre .0) .below; range = l .before .pre .1 }
 
 returns : tie.Need-returns Inv-loop μ-loop
 unfolding overlaps

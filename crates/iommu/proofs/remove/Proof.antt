@@ -35,7 +35,7 @@ inside-requires c κs =
     let l = c .before .before in
     let p = l .loop .inv in
     let s = l .before .before in
-    (rw (compact-read p) (pass-facts (p .those) (c .before .loop-test .taken) (s .pre .0) .below), s .pre .1)
+    record { mapping = rw (compact-read p) (pass-facts (p .those) (c .before .loop-test .taken) (s .pre .0) .below); range = s .pre .1 }
 
 add-size : tie.Need-add-size Inv-loop μ-loop
 add-size c =
