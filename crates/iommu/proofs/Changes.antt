@@ -2,15 +2,15 @@
 use Prim.Native.Nat.{ℕ, suc, _+_, _≤_, _<_}
 use native.Mathlib.Omega.{arith}
 use mathlib.Core.Path.{_≡_, refl, sym, _∙_, ap}
-use mathlib.Core.Bool.{Bool, true, false, not, true≢false}
-use mathlib.Core.List.{List, [], _∷_, _++_}
+use mathlib.Core.Bool.{Bool, true, false}
+use mathlib.Core.List.{List, [], _∷_}
 use lib.Dec.{ltb}
 use lib.ListN.{length}
 use lib.Seq.{take-append-seam}
 use borrow.Author.Tests.{ltb-true, ltb-false, lt-ltb, leb-true, eqb-false}
 use Rattle.answer.specs.Tests.{_and_, pick}
 use Rattle.answer.specs.declared.Verdict.the-variants.{Pass}
-use Rattle.answer.proofs.Tests.{and-true, and-made, or-false}
+use Rattle.answer.proofs.Tests.{and-made, or-false}
 use Rattle.answer.proofs.Checks.{then-pass, when-pass, unless-pass}
 use Rattle.address.specs.Address.{deviceLimit, memoryLimit, inDeviceRange}
 use Rattle.address.specs.declared.DeviceAddress.{DeviceAddress}
@@ -18,7 +18,7 @@ use Rattle.iommu.specs.declared.Mapping.{Mapping}
 use Rattle.iommu.specs.declared.Table.{Table}
 use Rattle.iommu.specs.Table.{capacity, end, soundMapping, soundFrom, soundTable, touches, anyOf, overlaps, insert, without, inUse, holding, Sound}
 use Rattle.iommu.specs.Requests.{mapChecks, unmapChecks}
-use Rattle.iommu.proofs.Soundness.{Facts, mapping-facts, sound-split, sound-join, sound-wider}
+use Rattle.iommu.proofs.Soundness.{mapping-facts, sound-split, sound-join, sound-wider}
 use Rattle.iommu.proofs.Passes.{in-use-length}
 
 -- ---- the table that holds a list

@@ -4,14 +4,14 @@ use native.Mathlib.Omega.{arith}
 use native.Mathlib.Numerals.{add-one}
 use mathlib.Core.Path.{_≡_, refl, sym, _∙_, ap}
 use mathlib.Core.Bool.{Bool, true, false}
-use mathlib.Core.List.{List, [], _∷_, _++_, append-nil}
+use mathlib.Core.List.{List, _++_, append-nil}
 use lib.ListN.{length, getD, take, drop, set, length-set, take-append-drop}
 use lib.Seq.{take-suc-set, drop-set-lt, drop-drop, getD-drop, append-snoc, length-take-le}
 use Rattle.answer.specs.Tests.{pick}
 use Rattle.iommu.specs.declared.Mapping.{Mapping}
 use Rattle.iommu.specs.declared.Table.{Table}
 use Rattle.iommu.specs.Table.{without, sizeOf, inUse, holding}
-use Rattle.iommu.proofs.Passes.{blank, entry, holding-made, Left, pass-start, pass-on, pass-end, in-use-next}
+use Rattle.iommu.proofs.Passes.{blank, entry, holding-made, Left, pass-start, pass-on, pass-end}
 
 -- at index i: the first `kept` entries are those that stay of the entries before i, and `size` is the sum of the others' sizes
 pub record Compacted (test : Mapping → Bool) (t : Table) (entries : List Mapping) (kept size i : ℕ) : Type 0 where

@@ -6,16 +6,15 @@ use mathlib.Core.Bool.{Bool, true, false}
 use mathlib.Core.List.{List, [], _∷_}
 use mathlib.Core.Option.{Option, none, some}
 use lib.Dec.{ltb}
-use borrow.Author.Tests.{leb-true, ltb-true, le-leb, lt-ltb}
+use borrow.Author.Tests.{leb-true, ltb-true, le-leb}
 use Rattle.answer.specs.Tests.{pick}
 use Rattle.answer.proofs.Tests.{and-true, and-made}
-use Rattle.address.specs.Address.{deviceLimit}
 use Rattle.address.specs.declared.DeviceAddress.{DeviceAddress}
 use Rattle.address.specs.declared.MemoryAddress.{MemoryAddress}
 use Rattle.iommu.specs.declared.Mapping.{Mapping}
 use Rattle.iommu.specs.declared.Translation.{Translation}
 use Rattle.iommu.specs.declared.Translation.the-variants.{At, Nowhere}
-use Rattle.iommu.specs.Table.{end, holds, addressIn, translate, validRights, soundMapping, soundFrom, soundTable, touches, overlaps, insert, without}
+use Rattle.iommu.specs.Table.{end, holds, addressIn, translate, validRights, soundFrom, soundTable, touches, overlaps, insert, without}
 use Rattle.iommu.proofs.Soundness.{Facts, mapping-facts, sound-split}
 use Rattle.iommu.proofs.Changes.{apart-facts, overlaps-split}
 

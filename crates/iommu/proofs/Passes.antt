@@ -1,5 +1,5 @@
 -- Passes over the entries of a table, the first entry first: what a pass has still to come decides.
-use Prim.Native.Nat.{ℕ, zero, suc, _+_, _≤_, _<_}
+use Prim.Native.Nat.{ℕ, suc, _+_, _≤_, _<_}
 use native.Mathlib.Omega.{arith}
 use native.Mathlib.Numerals.{add-one}
 use mathlib.Core.Path.{_≡_, refl, sym, _∙_, ap}
@@ -12,7 +12,7 @@ use Rattle.answer.specs.Tests.{_or_}
 use Rattle.address.specs.Address.{memoryLimit}
 use Rattle.iommu.specs.declared.Mapping.{Mapping}
 use Rattle.iommu.specs.declared.Table.{Table}
-use Rattle.iommu.specs.Table.{capacity, anyOf, soundTable, inUse, holding, Sound}
+use Rattle.iommu.specs.Table.{anyOf, soundTable, inUse, holding, Sound}
 use Rattle.iommu.proofs.Soundness.{Facts, sound-at}
 
 -- what an array of mappings reads as past its end

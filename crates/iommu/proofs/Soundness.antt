@@ -10,7 +10,7 @@ use lib.ListN.{length, getD}
 use borrow.Author.Tests.{leb-true, ltb-true, le-leb, lt-ltb}
 use Rattle.answer.specs.Tests.{_and_, pick}
 use Rattle.answer.proofs.Tests.{and-true, and-made}
-use Rattle.address.specs.Address.{deviceLimit, memoryLimit, memoryOffset, inDeviceRange, inMemoryRange}
+use Rattle.address.specs.Address.{deviceLimit, memoryLimit, inDeviceRange, inMemoryRange}
 use Rattle.iommu.specs.declared.Mapping.{Mapping}
 use Rattle.iommu.specs.declared.Table.{Table}
 use Rattle.iommu.specs.Table.{capacity, end, validRights, alignedMapping, inRange, soundMapping, soundFrom, soundTable, sizeOf, inUse, Sound}

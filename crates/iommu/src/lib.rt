@@ -43,12 +43,14 @@ pub struct Removed {
     pub size: u64,
 }
 
+// READ, WRITE or both, and no other bit.
 fn valid_rights(rights: u32) -> bool
     ensures { λ r. ⌜ r ≡ validRights rights ⌝ }
 {
     1 <= rights && rights <= 3
 }
 
+// Whether both addresses and the size are multiples of the page size.
 fn aligned_mapping(m: Mapping) -> bool
     ensures { λ r. ⌜ r ≡ alignedMapping m ⌝ }
 {
@@ -61,12 +63,14 @@ fn aligned_mapping(m: Mapping) -> bool
     address::aligned(m.size)
 }
 
+// Whether a mapping ends at 2^48 or below, and inside a memory of `size` bytes.
 fn in_range(size: u64, m: Mapping) -> bool
     ensures { λ r. ⌜ r ≡ inRange size m ⌝ }
 {
     address::in_device_range(m.device, m.size) && address::in_memory_range(size, m.memory, m.size)
 }
 
+// Whether a mapping passes the checks that the map request makes of it alone.
 fn sound_mapping(m: Mapping, size: u64) -> bool
     ensures { λ r. ⌜ r ≡ soundMapping size m ⌝ }
 {
@@ -228,6 +232,7 @@ pub fn check_map(table: Table, size: u64, m: Mapping) -> Verdict
     Verdict::Pass
 }
 
+// Whether a range begins and ends on a page.
 fn aligned_range(d: DeviceAddress, n: u64) -> bool
     ensures { λ r. ⌜ r ≡ (aligned (d .0) and aligned n) ⌝ }
 {

@@ -1,5 +1,4 @@
 -- `iommu::check_map` meets its contract: at each return the tests on the way decide the list of checks.
-use Prim.Native.Nat.{ℕ, _+_, _≤_}
 use native.Mathlib.Omega.{arith}
 use mathlib.Core.Path.{_≡_, sym, _∙_}
 use mathlib.Core.Bool.{true, false}

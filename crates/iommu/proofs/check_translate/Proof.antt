@@ -1,6 +1,5 @@
 -- `iommu::check_translate` meets its contract.
-use mathlib.Core.Path.{_≡_, sym, _∙_}
-use lib.Dec.{ltb}
+use mathlib.Core.Path.{sym, _∙_}
 use borrow.Author.Tests.{le-ltb, lt-ltb}
 use Rattle.answer.specs.Checks.{_then_, _unless_}
 use Rattle.address.specs.Address.{deviceLimit}

@@ -1,11 +1,8 @@
 -- `iommu::insert` meets its contract: the entries from the place on move up, the last one first.
-use Prim.Native.Nat.{ℕ, suc, _+_, _-_, _≤_, _<_}
+use Prim.Native.Nat.{_≤_}
 use native.Mathlib.Omega.{arith}
 use mathlib.Core.Path.{_≡_}
-use mathlib.Core.List.{List}
 use lib.ListN.{length}
-use Rattle.iommu.specs.declared.Mapping.{Mapping}
-use Rattle.iommu.specs.declared.Table.{Table}
 use Rattle.iommu.proofs.Passes.{length-mapped}
 use Rattle.iommu.proofs.Places.{Shifted, shift-start, shift-on, shift-done}
 use borrow.Author.Needs.{needs}

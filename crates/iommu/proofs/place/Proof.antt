@@ -1,5 +1,5 @@
 -- `iommu::place` meets its contract: each mapping passed begins at the new one or below.
-use Prim.Native.Nat.{ℕ, _-_, _≤_}
+use Prim.Native.Nat.{_-_}
 use native.Mathlib.Omega.{arith}
 use mathlib.Core.Path.{_≡_}
 use lib.ListN.{length}

@@ -1,11 +1,9 @@
 -- `iommu::translate` meets its contract: the mappings still to come hold the address, where one does.
-use Prim.Native.Nat.{ℕ, _-_, _≤_}
+use Prim.Native.Nat.{_-_}
 use native.Mathlib.Omega.{arith}
 use mathlib.Core.Path.{_≡_, sym, _∙_}
-use mathlib.Core.List.{List}
 use lib.ListN.{length}
 use Rattle.answer.proofs.Tests.{pick-true, pick-false}
-use Rattle.iommu.specs.declared.Mapping.{Mapping}
 use Rattle.iommu.specs.Table.{translate, addressIn, inUse}
 use Rattle.iommu.proofs.Passes.{Left, pass-start, pass-on, pass-stop, pass-end, pass-facts, length-mapped}
 use Rattle.iommu.proofs.Lookup.{holds-facts}
