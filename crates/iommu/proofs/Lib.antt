@@ -5,3 +5,4 @@ pub mod Places
 pub mod Compaction
 pub mod Changes
 pub mod Lookup
+pub mod Walk

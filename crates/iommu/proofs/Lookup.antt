@@ -6,9 +6,9 @@ use mathlib.Core.Bool.{Bool, true, false}
 use mathlib.Core.List.{List, [], _∷_}
 use mathlib.Core.Option.{Option, none, some}
 use lib.Dec.{ltb}
-use borrow.Author.Tests.{leb-true, ltb-true, le-leb}
+use borrow.Author.Tests.{leb-true, ltb-true, le-leb, lt-ltb}
 use Rattle.answer.specs.Tests.{pick}
-use Rattle.answer.proofs.Tests.{and-true, and-made}
+use Rattle.answer.proofs.Tests.{and-true, and-made, is-false}
 use Rattle.address.specs.declared.DeviceAddress.{DeviceAddress}
 use Rattle.address.specs.declared.MemoryAddress.{MemoryAddress}
 use Rattle.iommu.specs.declared.Mapping.{Mapping}
@@ -21,6 +21,13 @@ use Rattle.iommu.proofs.Changes.{apart-facts, overlaps-split}
 pub holds-facts : (m : Mapping) (d : DeviceAddress) → holds m d ≡ true → (m .device .0 ≤ d .0) × (d .0 < end m)
 unfolding holds
 holds-facts m d e = let p = and-true _ _ e in (leb-true _ _ (p .0), ltb-true _ _ (p .1))
+
+pub holds-made : (m : Mapping) (d : DeviceAddress) → m .device .0 ≤ d .0 → d .0 < end m → holds m d ≡ true
+unfolding holds
+holds-made m d p q = and-made _ _ (le-leb _ _ p) (lt-ltb _ _ q)
+
+pub holds-behind : (m : Mapping) (d : DeviceAddress) → end m ≤ d .0 → holds m d ≡ false
+holds-behind m d h = is-false (holds m d) (λ e. omega (arith, holds-facts m d e))
 
 -- ---- the mapping that holds an address
 
@@ -53,23 +60,28 @@ unfoldable pub Apart : List Mapping → Type 0
 Apart [] = Unit
 Apart (m ∷ ms) = ((d : DeviceAddress) → holds m d ≡ true → find ms d ≡ none) × Apart ms
 
-below-none : (size low : ℕ) (ms : List Mapping) → soundFrom size low ms ≡ true → (d : DeviceAddress) → d .0 < low → find ms d ≡ none
+-- a sound list holds no address below the one that it begins at
+pub find-below : (size low : ℕ) (ms : List Mapping) → soundFrom size low ms ≡ true → (d : DeviceAddress) → d .0 < low → find ms d ≡ none
 unfolding find
-below-none size low [] e d h = refl
-below-none size low (m ∷ ms) e d h =
+find-below size low [] e d h = refl
+find-below size low (m ∷ ms) e d h =
     let p = sound-split size low m ms e in
-    go (p .0) (holds m d) refl (below-none size (end m) ms (p .2) d (omega arith))
+    go (p .0) (holds m d) refl (find-below size (end m) ms (p .2) d (omega arith))
   where
     go : low ≤ m .device .0 → (s : Bool) → holds m d ≡ s → find ms d ≡ none → pick s (some m) (find ms d) ≡ none
     go l true t ih = absurd (let f = holds-facts m d t in omega arith)
     go l false t ih = unfold pick in ih
+
+pub translate-below : (size low : ℕ) (ms : List Mapping) → soundFrom size low ms ≡ true → (d : DeviceAddress) → d .0 < low → translate ms d ≡ Nowhere
+unfolding located
+translate-below size low ms e d h = translate-find ms d ∙ ap (located d) (find-below size low ms e d h)
 
 sound-apart-from : (size low : ℕ) (ms : List Mapping) → soundFrom size low ms ≡ true → Apart ms
 unfolding Apart
 sound-apart-from size low [] e = tt
 sound-apart-from size low (m ∷ ms) e =
     let p = sound-split size low m ms e in
-    ((λ d h. below-none size (end m) ms (p .2) d (holds-facts m d h .1)), sound-apart-from size (end m) ms (p .2))
+    ((λ d h. find-below size (end m) ms (p .2) d (holds-facts m d h .1)), sound-apart-from size (end m) ms (p .2))
 
 pub sound-apart : (size : ℕ) (ms : List Mapping) → soundTable size ms ≡ true → Apart ms
 unfolding soundTable

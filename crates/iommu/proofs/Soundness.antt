@@ -6,7 +6,7 @@ use mathlib.Core.Path.{_≡_, refl}
 use mathlib.Core.Bool.{Bool, true, false}
 use mathlib.Core.List.{List, [], _∷_}
 use lib.Dec.{leb}
-use lib.ListN.{length, getD}
+use lib.ListN.{length, getD, drop}
 use borrow.Author.Tests.{leb-true, ltb-true, le-leb, lt-ltb}
 use Rattle.answer.specs.Tests.{_and_, pick}
 use Rattle.answer.proofs.Tests.{and-true, and-made}
@@ -85,6 +85,15 @@ pub sound-at : (size low : ℕ) (ms : List Mapping) (i : ℕ) (blank : Mapping) 
 sound-at size low [] i blank e h = absurd (not-suc-le-zero h)
 sound-at size low (m ∷ ms) zero blank e h = mapping-facts size m (sound-split size low m ms e .1)
 sound-at size low (m ∷ ms) (suc i) blank e h = sound-at size (end m) ms i blank (sound-split size low m ms e .2) (le-of-suc-le-suc h)
+
+-- what is left of it from an index on is sound from there
+pub sound-drop : (size low : ℕ) (ms : List Mapping) (i : ℕ) (blank : Mapping) → soundFrom size low ms ≡ true → i < length ms
+    → soundFrom size (getD ms i blank .device .0) (drop i ms) ≡ true
+sound-drop size low [] i blank e h = absurd (not-suc-le-zero h)
+sound-drop size low (m ∷ ms) zero blank e h =
+    let p = sound-split size low m ms e in
+    sound-join size (m .device .0) m ms (omega arith) (p .1) (p .2)
+sound-drop size low (m ∷ ms) (suc i) blank e h = sound-drop size (end m) ms i blank (sound-split size low m ms e .2) (le-of-suc-le-suc h)
 
 -- the device addresses that a test picks lie apart, so that the sum of their sizes has a bound
 pub size-bound : (test : Mapping → Bool) (size low : ℕ) (ms : List Mapping) → low ≤ deviceLimit → soundFrom size low ms ≡ true → low + sizeOf test ms ≤ deviceLimit
