@@ -1,0 +1,4 @@
+pub mod Table
+pub mod Walk
+pub mod Transfers
+pub mod Steps

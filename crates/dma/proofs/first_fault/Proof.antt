@@ -1,0 +1,154 @@
+-- `dma::first_fault` meets its contract: the offsets passed have no fault.
+use Prim.Native.Nat.{ℕ, _-_, _<_}
+use native.Mathlib.Omega.{arith}
+use mathlib.Core.Path.{_≡_, sym, _∙_}
+use mathlib.Core.Logic.{⊎-elim}
+use borrow.Author.Needs.{needs}
+use Rattle.dma.proofs.Walk.{length-mapped, entry-range, run-room}
+use Rattle.dma.proofs.Steps.{Judged, judged-start, judged-pass, judged-end, judged-gap, judged-past, judged-fault, judged-place, judged-run}
+use Rattle.dma.proofs.first_fault.Statement.{statement}
+use Rattle.dma.proofs.first_fault.Tie as tie
+
+abbrev Inv-loop : tie.InvT-loop
+Inv-loop shadow d n write table count k₀ i₀ k i = Judged write shadow table d n k i
+
+abbrev μ-loop : tie.MeasureT-loop
+μ-loop shadow d n write table count k₀ i₀ k i = count - i
+
+loop-holds : tie.Need-loop-holds Inv-loop μ-loop
+loop-holds c = judged-start _ _ _ _ (c .before .pre .0) (search (needs, length-mapped))
+
+returns : tie.Need-returns Inv-loop μ-loop
+returns c =
+    let l = c .before .before in
+    sym (judged-pass (l .loop .inv) (c .if1 .taken))
+
+mul-m : tie.Need-mul-m Inv-loop μ-loop
+mul-m c = search needs
+
+element-copy-out-m : tie.Need-element-copy-out-m Inv-loop μ-loop
+element-copy-out-m c = search needs
+
+add-t23 : tie.Need-add-t23 Inv-loop μ-loop
+add-t23 c = search needs
+
+sub-run-in : tie.Need-sub-run-in Inv-loop μ-loop
+sub-run-in c = search needs
+
+run-in-requires : tie.Need-run-in-requires Inv-loop μ-loop
+run-in-requires c κs =
+    let t = c .before .before .before in
+    entry-range (t .before .loop .inv .walk) (t .loop-test .taken)
+
+enum-told : tie.Need-enum-told Inv-loop μ-loop
+enum-told c = search needs
+
+returns-2 : tie.Need-returns-2 Inv-loop μ-loop
+returns-2 c =
+    let r = c .before .before in
+    let t = r .before .before .before .before in
+    sym (judged-gap (t .before .loop .inv) (t .loop-test .taken) (omega arith) (sym (r .run-in .ensures) ∙ c .enum-told .given .1))
+
+enum-told-2 : tie.Need-enum-told-2 Inv-loop μ-loop
+enum-told-2 c = search needs
+
+enum-known-run : tie.Need-enum-known-run Inv-loop μ-loop
+enum-known-run c = search needs
+
+run-fault-requires : tie.Need-run-fault-requires Inv-loop μ-loop
+run-fault-requires c κs =
+    let r = c .before .before .before in
+    let t = r .before .before .before .before in
+    let room = run-room (t .before .loop .inv .walk) (t .loop-test .taken) (sym (r .run-in .ensures) ∙ c .before .run .given .1) in
+    (room .0, room .2 (omega arith))
+
+enum-told-3 : tie.Need-enum-told-3 Inv-loop μ-loop
+enum-told-3 c = search needs
+
+add-k : tie.Need-add-k Inv-loop μ-loop
+add-k c =
+    let v = c .before .before .before in
+    let r = v .before .before .before in
+    let t = r .before .before .before .before in
+    let room = run-room (t .before .loop .inv .walk) (t .loop-test .taken) (sym (r .run-in .ensures) ∙ v .before .run .given .1) in
+    omega (arith, room .1)
+
+enum-known-verdict : tie.Need-enum-known-verdict Inv-loop μ-loop
+enum-known-verdict c = search needs
+
+add-t27 : tie.Need-add-t27 Inv-loop μ-loop
+add-t27 c =
+    let f = c .before .before .before in
+    let v = f .before in
+    let r = v .before .before .before in
+    let t = r .before .before .before .before in
+    let shows = sym (r .run-in .ensures) ∙ v .before .run .given .1 in
+    let room = run-room (t .before .loop .inv .walk) (t .loop-test .taken) shows in
+    let place = judged-place (t .before .loop .inv) (t .loop-test .taken) shows (f .run-fault .ensures) _ _ (c .before .verdict .given .1) in
+    omega (arith, room .1, place)
+
+returns-3 : tie.Need-returns-3 Inv-loop μ-loop
+returns-3 c =
+    let f = c .before .before .before in
+    let v = f .before in
+    let r = v .before .before .before in
+    let t = r .before .before .before .before in
+    sym
+    (judged-fault (t .before .loop .inv) (t .loop-test .taken) (sym (r .run-in .ensures) ∙ v .before .run .given .1)
+    (f .run-fault .ensures) _ _ (c .before .verdict .given .1))
+
+add-i : tie.Need-add-i Inv-loop μ-loop
+add-i c = search needs
+
+loop-less : tie.Need-loop-less Inv-loop μ-loop
+loop-less c = search needs
+
+loop-again : tie.Need-loop-again Inv-loop μ-loop
+loop-again c =
+    let r = c .before in
+    let t = r .before .before .before .before in
+    ⊎-elim
+    (λ w. rw (w .2) (judged-past (t .before .loop .inv) (t .loop-test .taken) (sym (r .run-in .ensures) ∙ w .1 .given .1)))
+    (λ w.
+    rw (w .6)
+    (judged-run (t .before .loop .inv) (t .loop-test .taken) (sym (r .run-in .ensures) ∙ w .1 .given .1) (w .3 .ensures) (w .5 .given .1)))
+    (c .match .came)
+
+returns-4 : tie.Need-returns-4 Inv-loop μ-loop
+returns-4 c =
+    let l = c .before .before in
+    sym (judged-end (l .loop .inv) (c .before .loop-test .left) (c .if2 .taken))
+
+returns-5 : tie.Need-returns-5 Inv-loop μ-loop
+returns-5 c =
+    let l = c .before .before in
+    sym (judged-pass (l .loop .inv) (c .if2 .left))
+
+pub first-fault-spec : {M : Type 1} → statement M
+first-fault-spec =
+    tie.close
+    (tie.spec
+    Inv-loop
+    μ-loop
+    loop-holds
+    returns
+    mul-m
+    element-copy-out-m
+    add-t23
+    sub-run-in
+    run-in-requires
+    enum-told
+    returns-2
+    enum-told-2
+    enum-known-run
+    run-fault-requires
+    enum-told-3
+    add-k
+    enum-known-verdict
+    add-t27
+    returns-3
+    add-i
+    loop-less
+    loop-again
+    returns-4
+    returns-5)
