@@ -1,19 +1,20 @@
 -- Loading a stream of parts (document 01, "Registers and parts").
 use Prim.Native.Nat.{ℕ, zero, suc, _^_}
-use mathlib.Core.Bool.{Bool}
+use mathlib.Core.Bool.{Bool, true}
 use mathlib.Core.List.{List}
 use mathlib.Core.Option.{Option, none, some}
 use lib.ListN.{length, getD, set, drop, replicate}
 use lib.Dec.{ltb, leb, eqb}
-use Rattle.answer.specs.Tests.{pick, isSome}
+use Rattle.answer.specs.Tests.{_and_, pick, isSome}
 use Rattle.answer.specs.Codes.{Index, Running, Truncated, Header, UnknownPart, Missing}
 use Rattle.answer.specs.Checks.{_then_, _when_, _unless_, _at_}
 use Rattle.answer.specs.Limits.{lengthCheck}
-use Rattle.answer.specs.Answer.{Answer, refused, settle, _onward_}
+use Rattle.answer.specs.Answer.{Answer, done, refused, settle, _onward_}
 use Rattle.answer.specs.declared.Verdict.{Verdict}
 use Rattle.registers.specs.Rows.{OfferedFeatures, rowCount, statusRow, rowOf, selects, listed, selectorWidth}
 use Rattle.registers.specs.Values.{valueChecks}
-use Rattle.registers.specs.File.{File}
+use Rattle.registers.specs.File.{File, fileFrom, registerOf, slotsOf}
+use Rattle.registers.specs.declared.Register.{Register}
 use Rattle.parts.specs.Step.{stepAt, valueTo}
 use Rattle.parts.specs.declared.Step.{Step}
 use Rattle.parts.specs.declared.Step.the-variants.{Part, End, Refused}
@@ -69,3 +70,22 @@ unfoldable pub load : Bool → List ℕ → Answer File
 load running s =
     settle (Running when running then lengthCheck (length s)) nothingSeen
     onward loadFrom (suc (length s)) s 0
+
+-- ---- what the code keeps while it loads, and gives
+
+-- what the code's registers for the rows have seen
+abbrev pub seenIn : List Register → Seen
+seenIn rows = fileFrom 0 rows
+
+-- whether a part can be taken: its type is not listed, or it names a row and its value fits a register
+unfoldable pub placeable : ℕ → ℕ → List ℕ → Bool
+placeable kind selector v = pick (listed kind) (selects kind selector and leb (length v) 32) true
+
+-- the code's registers for the rows with a part taken
+unfoldable pub takenRows : List Register → ℕ → ℕ → List ℕ → List Register
+takenRows rows kind selector v = pick (listed kind) (set rows (rowOf kind selector) (registerOf (some v))) rows
+
+-- the code's registers after loading: those given where it is refused, else the file's
+unfoldable pub loadedSlots : Answer File → List Register → List Register
+loadedSlots (done file) slots = slotsOf file
+loadedSlots (refused code place) slots = slots

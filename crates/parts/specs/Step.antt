@@ -39,6 +39,10 @@ unfoldable pub stepOn : Verdict → Step → Step
 stepOn Pass part = part
 stepOn (Fail code place) part = Refused code place
 
+-- the step where something of the stream is left
+unfoldable pub partStep : List ℕ → ℕ → Step
+partStep h p = stepOn (headerChecks h at p) (partAt h p)
+
 -- A step "says when the end is reached, and gives 18 at its place if that lies past the end".
 unfoldable pub stepAt : List ℕ → ℕ → Step
 stepAt s p =

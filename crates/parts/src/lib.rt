@@ -1,4 +1,18 @@
 // Device parts: the stream that carries the registers.
+use answer::Verdict;
+use registers::Register;
+use registers::Registers;
+ghost use mathlib.Core.Path.{_≡_};
+ghost use mathlib.Core.Bool.{true};
+ghost use Prim.Native.Nat.{suc, _+_, _^_, _≤_, _<_};
+ghost use lib.ListN.{length, take, drop};
+ghost use lib.Seq.{sets};
+ghost use Rattle.answer.specs.Answer.{verdict as verdictOf};
+ghost use Rattle.registers.specs.Rows.{rowCount, sizeOf, selectorWidth};
+ghost use Rattle.registers.specs.File.{fileOf, slotsOf};
+ghost use Rattle.parts.specs.Step.{headerSize, partStep, stepAt, valueTo, valueAt};
+ghost use Rattle.parts.specs.Load.{flagsOf, listedChecks, partChecks, finish as finished, loadFrom, load as loading, seenIn, nothingSeen, placeable, takenRows, loadedSlots};
+ghost use Rattle.parts.specs.Save.{encoded, saved, saveChecks};
 
 // What stands at a place of a stream: a part, whose value reaches from 16 bytes behind that place to `next`; the end; or a refusal.
 pub enum Step {
@@ -10,4 +24,314 @@ pub enum Step {
     },
     End,
     Refused(u32, u64),
+}
+
+// ---- one step
+
+const HEADER_SIZE: usize = 16;
+
+// The part at place `at`, where `h` is what is left of the stream there.
+fn part_at(h: &[u8], at: usize) -> Step
+    requires { ⌜ at + length (now h) < 2 ^ 64 ⌝ }
+    ensures { λ r. ⌜ r ≡ partStep (now (h .entry)) at ⌝ }
+{
+    if h.len() < HEADER_SIZE {
+        return Step::Refused(answer::TRUNCATED, at as u64);
+    }
+    let flags = wire::get_u8(h, 2);
+    if 1 < flags {
+        return Step::Refused(answer::HEADER, at as u64);
+    }
+    if wire::get_u8(h, 3) != 0 {
+        return Step::Refused(answer::HEADER, at as u64);
+    }
+    let size = wire::get_u32(h, 12) as usize;
+    if h.len() - HEADER_SIZE < size {
+        return Step::Refused(answer::TRUNCATED, at as u64);
+    }
+    Step::Part {
+        kind: wire::get_u16(h, 0),
+        flags,
+        selector: wire::get_u64(h, 4),
+        next: at + HEADER_SIZE + size,
+    }
+}
+
+// One step over a stream of any length.
+pub fn step_at(s: &[u8], at: usize) -> Step
+    ensures { λ r. ⌜ r ≡ stepAt (now (s .entry)) at ⌝ }
+{
+    if s.len() < at {
+        return Step::Refused(answer::TRUNCATED, at as u64);
+    }
+    if at == s.len() {
+        return Step::End;
+    }
+    part_at(&s[at..], at)
+}
+
+// The value of the part at `at` whose next place is `next`, as that stretch of the lent stream.
+pub fn value_to(s: &[u8], at: usize, next: usize) -> &[u8]
+    requires { ⌜ (at + headerSize ≤ next) × (next ≤ length (now s)) ⌝ }
+    ensures { λ r. ⌜ now r ≡ valueTo (now (s .entry)) at next ⌝ }
+{
+    let start = at + HEADER_SIZE;
+    &s[start..next]
+}
+
+// The value of the part at `at`; nothing where a step hands back no part.
+pub fn value_at(s: &[u8], at: usize) -> &[u8]
+    ensures { λ r. ⌜ now r ≡ valueAt (now (s .entry)) at ⌝ }
+{
+    let step = step_at(s, at);
+    match step {
+        Step::Part {
+            kind: _,
+            flags: _,
+            selector: _,
+            next,
+        } => value_to(s, at, next),
+        Step::End => &s[..0],
+        Step::Refused(_, _) => &s[..0],
+    }
+}
+
+// ---- loading
+
+// What loading comes to, and the registers afterwards.
+pub struct Loaded {
+    pub verdict: Verdict,
+    pub registers: Registers,
+}
+
+// Offered features are flagged optional, and no other listed type.
+fn flags_of(kind: u64) -> u8
+    ensures { λ r. ⌜ r ≡ flagsOf kind ⌝ }
+{
+    if kind == registers::OFFERED_FEATURES {
+        1
+    } else {
+        0
+    }
+}
+
+// The first number that the selector bytes of a type cannot hold.
+fn selector_limit(kind: u64) -> u64
+    ensures { λ r. ⌜ r ≡ 256 ^ selectorWidth kind ⌝ }
+{
+    let width = registers::selector_width(kind);
+    if width == 4 {
+        return 0x100000000;
+    }
+    if width == 2 { 0x10000 } else { 1 }
+}
+
+// A part of a listed type; `seen` has a register for each row of the table.
+fn check_listed(seen: [Register; 15], kind: u64, flags: u8, selector: u64, v: &[u8]) -> Verdict
+    ensures { λ r. ⌜ r ≡ listedChecks (seenIn seen) kind flags selector (now (v .entry)) ⌝ }
+{
+    if flags != flags_of(kind) {
+        return Verdict::Fail(answer::HEADER, 0);
+    }
+    if selector_limit(kind) <= selector {
+        return Verdict::Fail(answer::HEADER, 0);
+    }
+    let row = registers::row_of(kind, selector);
+    if registers::ROWS <= row {
+        return Verdict::Fail(answer::INDEX, 0);
+    }
+    let r = seen[row];
+    registers::check_value(row, r.set, v)
+}
+
+fn check_part(seen: [Register; 15], kind: u64, flags: u8, selector: u64, v: &[u8]) -> Verdict
+    ensures { λ r. ⌜ r ≡ partChecks (seenIn seen) kind flags selector (now (v .entry)) ⌝ }
+{
+    if 0x600 <= kind {
+        return Verdict::Fail(answer::UNKNOWN_PART, 0);
+    }
+    if registers::is_listed(kind) {
+        return check_listed(seen, kind, flags, selector, v);
+    }
+    if flags == 1 {
+        Verdict::Pass
+    } else {
+        Verdict::Fail(answer::UNKNOWN_PART, 0)
+    }
+}
+
+// What is seen with a part that passed its checks: a part of an unlisted type is skipped.
+fn take_part(seen: [Register; 15], kind: u64, selector: u64, v: &[u8]) -> [Register; 15]
+    requires { ⌜ placeable kind selector (now v) ≡ true ⌝ }
+    ensures { λ r. ⌜ r ≡ takenRows seen kind selector (now (v .entry)) ⌝ }
+{
+    let mut rows = seen;
+    if registers::is_listed(kind) {
+        let row = registers::row_of(kind, selector);
+        let r = registers::holding(v);
+        rows[row] = r;
+    }
+    rows
+}
+
+// The registers that are kept: those behind the row of offered features.
+fn kept(seen: [Register; 15]) -> Registers
+    ensures { λ r. ⌜ r .slots ≡ drop 1 seen ⌝ }
+{
+    let none = registers::unset();
+    let mut slots = [none; 14];
+    let mut i: usize = 0;
+    while i < 14 {
+        let r = seen[i + 1];
+        slots[i] = r;
+        i += 1;
+    }
+    Registers { slots }
+}
+
+// The end of the stream, at place `at`.
+fn finish(registers: Registers, seen: [Register; 15], at: usize) -> Loaded
+    requires { ⌜ seen ≡ slotsOf (seenIn seen) ⌝ }
+    ensures { λ r. ⌜ (r .verdict ≡ verdictOf (finished (seenIn seen) at)) × (r .registers .slots ≡ loadedSlots (finished (seenIn seen) at) (registers .slots)) ⌝ }
+{
+    let status = seen[registers::STATUS_ROW];
+    if status.set {
+        return Loaded {
+            verdict: Verdict::Pass,
+            registers: kept(seen),
+        };
+    }
+    Loaded {
+        verdict: Verdict::Fail(answer::MISSING, at as u64),
+        registers,
+    }
+}
+
+// Each part in order. Nothing of `registers` changes before the last check has passed.
+fn load_parts(registers: Registers, s: &[u8]) -> Loaded
+    ensures { λ r. ⌜ (r .verdict ≡ verdictOf (loadFrom (suc (length (now (s .entry)))) (now (s .entry)) 0 nothingSeen)) × (r .registers .slots ≡ loadedSlots (loadFrom (suc (length (now (s .entry)))) (now (s .entry)) 0 nothingSeen) (registers .slots)) ⌝ }
+{
+    let none = registers::unset();
+    let mut seen = [none; 15];
+    let mut at: usize = 0;
+    loop {
+        let step = step_at(s, at);
+        match step {
+            Step::End => {
+                return finish(registers, seen, at);
+            }
+            Step::Refused(code, place) => {
+                return Loaded {
+                    verdict: Verdict::Fail(code, place),
+                    registers,
+                };
+            }
+            Step::Part {
+                kind,
+                flags,
+                selector,
+                next,
+            } => {
+                let v = value_to(s, at, next);
+                let verdict = check_part(seen, kind as u64, flags, selector, v);
+                match verdict {
+                    Verdict::Fail(code, _) => {
+                        return Loaded {
+                            verdict: Verdict::Fail(code, at as u64),
+                            registers,
+                        };
+                    }
+                    Verdict::Pass => {
+                        let taken = take_part(seen, kind as u64, selector, v);
+                        seen = taken;
+                        at = next;
+                    }
+                }
+            }
+        }
+    }
+}
+
+pub fn load(registers: Registers, running: bool, s: &[u8]) -> Loaded
+    ensures { λ r. ⌜ (r .verdict ≡ verdictOf (loading running (now (s .entry)))) × (r .registers .slots ≡ loadedSlots (loading running (now (s .entry))) (registers .slots)) ⌝ }
+{
+    if running {
+        return Loaded {
+            verdict: Verdict::Fail(answer::RUNNING, 0),
+            registers,
+        };
+    }
+    if 65536 < s.len() {
+        return Loaded {
+            verdict: Verdict::Fail(answer::TOO_LONG, 0),
+            registers,
+        };
+    }
+    load_parts(registers, s)
+}
+
+// ---- saving
+
+// Writes the part of a row from `at` on; its value stands at the start of the register's bytes.
+fn put_part(buf: &mut [u8], at: usize, row: usize, r: Register)
+    requires { ⌜ (row < rowCount) × (length (r .bytes) ≡ 32) × (at + headerSize + sizeOf row ≤ length (now buf)) ⌝ }
+    ensures { λ x. ⌜ now (buf .exit) ≡ sets (now (buf .entry)) at (encoded row (take (sizeOf row) (r .bytes))) ⌝ }
+{
+    let kind = registers::kind_of(row);
+    let size = registers::size_of(row);
+    wire::put_u16(buf, at, kind as u16);
+    wire::put_u8(buf, at + 2, flags_of(kind));
+    wire::put_u8(buf, at + 3, 0);
+    wire::put_u64(buf, at + 4, registers::selector_of(row));
+    wire::put_u32(buf, at + 12, size as u32);
+    let bytes = r.bytes;
+    wire::copy(buf, at + HEADER_SIZE, &bytes, 0, size);
+}
+
+// How many bytes saving writes.
+fn saved_length(registers: Registers) -> usize
+    ensures { λ r. ⌜ r ≡ length (saved (fileOf registers)) ⌝ }
+{
+    let mut n: usize = 0;
+    let mut i: usize = 0;
+    while i < registers::ROWS {
+        let r = registers::current(registers, i);
+        if r.set {
+            n = n + HEADER_SIZE + registers::size_of(i);
+        }
+        i += 1;
+    }
+    n
+}
+
+// Saving into a buffer of `room` bytes.
+pub fn check_save(registers: Registers, running: bool, room: usize) -> Verdict
+    ensures { λ r. ⌜ r ≡ saveChecks running (fileOf registers) room ⌝ }
+{
+    if running {
+        return Verdict::Fail(answer::RUNNING, 0);
+    }
+    if room < saved_length(registers) {
+        return Verdict::Fail(answer::NO_SPACE, 0);
+    }
+    Verdict::Pass
+}
+
+// Writes the parts of the registers that are set, and of offered features, to the start of a buffer that has the room, and reports
+// their length.
+pub fn save(registers: Registers, buf: &mut [u8]) -> usize
+    requires { ⌜ length (saved (fileOf registers)) ≤ length (now buf) ⌝ }
+    ensures { λ r. ⌜ (now (buf .exit) ≡ sets (now (buf .entry)) 0 (saved (fileOf registers))) × (r ≡ length (saved (fileOf registers))) ⌝ }
+{
+    let mut at: usize = 0;
+    let mut i: usize = 0;
+    while i < registers::ROWS {
+        let r = registers::current(registers, i);
+        if r.set {
+            put_part(buf, at, i, r);
+            at = at + HEADER_SIZE + registers::size_of(i);
+        }
+        i += 1;
+    }
+    at
 }

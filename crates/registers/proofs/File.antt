@@ -74,6 +74,9 @@ file-at i [] k = sym (value-unset (i + k) absent refl)
 file-at i (r ∷ rs) zero = rw add-zero
 file-at i (r ∷ rs) (suc k) = rw (add-suc, ← suc-add) (file-at (suc i) rs k)
 
+pub set-at : (i : ℕ) (l : List Register) (k : ℕ) → isSome (getD (fileFrom i l) k none) ≡ getD l k absent .set
+set-at i l k = ap isSome (file-at i l k) ∙ set-is (i + k) (getD l k absent)
+
 -- the register that is kept for a row
 pub current-kept : (registers : Registers) (i : ℕ) → 0 < i → current (fileOf registers) i ≡ valueIn i (getD (registers .slots) (i - 1) absent)
 unfolding current fileOf

@@ -22,6 +22,14 @@ pub size-most : (i : ℕ) → i < rowCount → sizeOf i ≤ 32
 unfolding sizeOf below _and_
 size-most i h = leb-true _ _ (below-at (λ i. leb (sizeOf i) 32) rowCount refl i h)
 
+pub kind-fits : (i : ℕ) → i < rowCount → kindOf i < 256 ^ 2
+unfolding kindOf below _and_
+kind-fits i h = ltb-true _ _ (below-at (λ i. ltb (kindOf i) (256 ^ 2)) rowCount refl i h)
+
+pub selector-fits : (i : ℕ) → i < rowCount → selectorOf i < 256 ^ 8
+unfolding selectorOf below _and_
+selector-fits i h = ltb-true _ _ (below-at (λ i. ltb (selectorOf i) (256 ^ 8)) rowCount refl i h)
+
 -- how many bytes of a value the rule of its type looks at
 unfoldable pub looked : ℕ → ℕ
 looked kind = pick (eqb kind QueueConfig) 32 (pick (eqb kind OfferedFeatures) 8 (pick (eqb kind DriverFeatures) 8 (pick (eqb kind NotifyConfig) 8 0)))

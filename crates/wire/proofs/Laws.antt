@@ -58,6 +58,11 @@ getD-sets-other l o (x ∷ xs) i h =
     getD-sets-other (set l o x) (suc o) xs i (λ a b. h (omega arith) (omega arith))
     ∙ getD-set-other l o i x 0 (λ e. h (omega arith) (omega arith))
 
+-- what is written behind what was written
+pub sets-then : (l xs ys : List ℕ) (a b : ℕ) → a + length xs ≡ b → sets (sets l a xs) b ys ≡ sets l a (xs ++ ys)
+sets-then l [] ys a b e = let f : b ≡ a = omega arith in rw f
+sets-then l (x ∷ xs) ys a b e = sets-then (set l a x) xs ys (suc a) b (omega arith)
+
 -- a field that lies before or behind what is written stays
 pub field-sets-other : (l : List ℕ) (o : ℕ) (xs : List ℕ) (p w : ℕ) → (((i : ℕ) → i < w → o ≤ p + i → p + i < o + length xs → ⊥))
     → field (sets l o xs) p w ≡ field l p w
