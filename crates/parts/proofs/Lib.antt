@@ -1,3 +1,4 @@
 pub mod Steps
 pub mod Loading
 pub mod Saving
+pub mod RoundTrip

@@ -1,3 +1,4 @@
 pub mod Step
 pub mod Load
 pub mod Save
+pub mod RoundTrip

@@ -12,12 +12,13 @@ use lib.Seq.{sets, take-at, drop-cons, sets-eq}
 use lib.Dec.{eqb}
 use borrow.Author.Tests.{eq-eqb, eqb-true}
 use Rattle.answer.specs.Tests.{_and_, pick, isSome}
-use Rattle.answer.specs.Checks.{passes}
+use Rattle.answer.specs.Checks.{_then_, _when_, _unless_, passes}
 use Rattle.answer.specs.declared.Verdict.{Verdict}
 use Rattle.answer.specs.declared.Verdict.the-variants.{Pass, Fail}
 use Rattle.answer.proofs.Tests.{and-true, and-made, and-false}
-use Rattle.registers.specs.Rows.{statusRow, sizeOf}
-use Rattle.registers.specs.Values.{valueChecks}
+use Rattle.wire.specs.Field.{field, bytesOf}
+use Rattle.registers.specs.Rows.{statusRow, kindOf, sizeOf}
+use Rattle.registers.specs.Values.{offered, contentChecks, valueChecks}
 use Rattle.registers.specs.File.{File, current, withValue, soundFrom, soundValue, soundFile, valueIn, fileFrom, fileOf, registerOf, slotsOf, sizedFrom}
 use Rattle.registers.specs.declared.Register.{Register}
 use Rattle.registers.specs.declared.Registers.{Registers}
@@ -30,6 +31,12 @@ length-mapped X Y f l n e = sym (length-map l f) ∙ e
 -- what a list of registers reads as past its end
 abbrev pub absent : Register
 absent = record { set = false; bytes = [] }
+
+none≢some : {X : Type 0} {v : X} → none ≡ some v → ⊥
+none≢some e = let z : _≡_ {A = ℕ} 0 1 = cc in omega arith
+
+some-same : {X : Type 0} {v w : X} → some v ≡ some w → v ≡ w
+some-same e = cc
 
 -- ---- one register
 
@@ -125,6 +132,21 @@ unfolding soundFrom soundValue _and_
 sound-cons i none file = refl
 sound-cons i (some v) file = refl
 
+sound-at : (i : ℕ) (file : File) (k : ℕ) (v : List ℕ) → soundFrom i file ≡ true → getD file k none ≡ some v → valueChecks (i + k) false v ≡ Pass
+sound-at i [] k v h e = absurd (none≢some e)
+sound-at i (x ∷ file) zero v h e = rw add-zero (sound-value i v (ap (soundValue i) (sym e) ∙ and-true _ _ (sym (sound-cons i x file) ∙ h) .0))
+sound-at i (x ∷ file) (suc k) v h e = rw (add-suc, ← suc-add) (sound-at (suc i) file k v (and-true _ _ (sym (sound-cons i x file) ∙ h) .1) e)
+
+offered-sound : valueChecks 0 false (bytesOf 8 offered) ≡ Pass
+unfolding valueChecks contentChecks sizeOf kindOf bytesOf field pick _then_ _when_ _unless_
+offered-sound = refl
+
+-- what any row of a sound file shows passes its checks
+pub current-sound : (file : File) (i : ℕ) (v : List ℕ) → soundFrom 1 file ≡ true → current file i ≡ some v → valueChecks i false v ≡ Pass
+unfolding current
+current-sound file zero v h e = ap (valueChecks 0 false) (some-same (sym e)) ∙ offered-sound
+current-sound file (suc k) v h e = let i : 1 + k ≡ suc k = omega arith in rw (← i) (sound-at 1 file k v h e)
+
 -- values that are accepted have their rows' sizes
 pub sound-sized : (i : ℕ) (file : File) → soundFrom i file ≡ true → sizedFrom i file ≡ true
 unfolding soundFrom sizedFrom
@@ -133,6 +155,20 @@ sound-sized i (none ∷ file) h = sound-sized (suc i) file h
 sound-sized i (some v ∷ file) h =
     let b = and-true _ _ h in
     and-made _ _ (eq-eqb _ _ (value-size i false v (passes-true _ (b .0)))) (sound-sized (suc i) file (b .1))
+
+sized-at : (i : ℕ) (file : File) (k : ℕ) (v : List ℕ) → sizedFrom i file ≡ true → getD file k none ≡ some v → length v ≡ sizeOf (i + k)
+unfolding sizedFrom
+sized-at i [] k v h e = absurd (none≢some e)
+sized-at i (none ∷ file) zero v h e = absurd (none≢some e)
+sized-at i (some w ∷ file) zero v h e = rw add-zero (ap length (some-same (sym e)) ∙ eqb-true _ _ (and-true _ _ h .0))
+sized-at i (none ∷ file) (suc k) v h e = rw (add-suc, ← suc-add) (sized-at (suc i) file k v h e)
+sized-at i (some w ∷ file) (suc k) v h e = rw (add-suc, ← suc-add) (sized-at (suc i) file k v (and-true _ _ h .1) e)
+
+-- what any row of such a file shows has the row's size
+pub current-sized : (file : File) (i : ℕ) (v : List ℕ) → sizedFrom 1 file ≡ true → current file i ≡ some v → length v ≡ sizeOf i
+unfolding current
+current-sized file zero v h e = ap length (some-same (sym e)) ∙ value-size 0 false _ offered-sound
+current-sized file (suc k) v h e = let i : 1 + k ≡ suc k = omega arith in rw (← i) (sized-at 1 file k v h e)
 
 module _ (registers : Registers) where
   pub sound-status : getD (registers .slots) 5 absent .set ≡ false → false ≡ soundFile (fileOf registers)
