@@ -65,7 +65,7 @@ fn lendable(bytes: &[u8], shadow: &[u8]) -> bool
 }
 
 // Whether a call that is given memory, marks and state may use them.
-fn usable(state: State, bytes: &[u8], shadow: &[u8]) -> bool
+pub fn usable(state: State, bytes: &[u8], shadow: &[u8]) -> bool
     ensures { λ r. ⌜ r ≡ canUse both (emulatorOf state (memoryOf (now (bytes .entry)) (now (shadow .entry)))) ⌝ }
 {
     if !lendable(bytes, shadow) {
