@@ -12,7 +12,7 @@ ghost use mathlib.Core.List.{List, []};
 ghost use Prim.Native.Nat.{ℕ};
 ghost use Rattle.memory.specs.Memory.{Memory, memoryOf};
 ghost use Rattle.emulator.specs.Machine.{machineOf, emulatorOf, both, sound as soundMachine, lendable as canLend, usable as canUse};
-ghost use Rattle.emulator.specs.Calls.{powerOn, lookUp, hostWrite, hostRead, setRegister, readRegister};
+ghost use Rattle.emulator.specs.Calls.{powerOn, lookUp, deviceRead, deviceWrite, hostWrite, hostRead, setRegister, readRegister, loadParts, saveParts};
 ghost use Rattle.emulator.specs.Calls as calls;
 ghost use Rattle.emulator.specs.Contract.{Meets, told, toldLocation, runCall, withRegistersIn, withRunningIn};
 
@@ -169,6 +169,54 @@ pub fn host_read(
     }
 }
 
+// Card read: the whole of `buf` is filled from the memory that the mappings show at the device addresses from `d` on.
+pub fn device_read(
+    state: State,
+    bytes: &[u8],
+    shadow: &[u8],
+    d: DeviceAddress,
+    buf: &mut [u8],
+) -> Answer
+    ensures { λ r. ⌜ Meets (deviceRead d) (now (buf .entry)) state (memoryOf (now (bytes .entry)) (now (shadow .entry))) (told r) (now (buf .exit)) (memoryOf (now (bytes .entry)) (now (shadow .entry))) state ⌝ }
+{
+    if !usable(state, bytes, shadow) {
+        return Answer::Refused(answer::BAD_BENCH, 0);
+    }
+    let table = state.table;
+    let verdict = dma::check_read(table, shadow, d, buf.len());
+    match verdict {
+        Verdict::Fail(code, place) => Answer::Refused(code, place),
+        Verdict::Pass => {
+            dma::read(table, bytes, d, buf);
+            Answer::Done(0)
+        }
+    }
+}
+
+// Card write: `buf` goes, in offset order, to the memory that the mappings show at the device addresses from `d` on.
+pub fn device_write(
+    state: State,
+    bytes: &mut [u8],
+    shadow: &mut [u8],
+    d: DeviceAddress,
+    buf: &[u8],
+) -> Answer
+    ensures { λ r. ⌜ Meets (deviceWrite d) (now (buf .entry)) state (memoryOf (now (bytes .entry)) (now (shadow .entry))) (told r) (now (buf .entry)) (memoryOf (now (bytes .exit)) (now (shadow .exit))) state ⌝ }
+{
+    if !usable(state, bytes, shadow) {
+        return Answer::Refused(answer::BAD_BENCH, 0);
+    }
+    let table = state.table;
+    let verdict = dma::check_write(table, shadow, d, buf.len());
+    match verdict {
+        Verdict::Fail(code, place) => Answer::Refused(code, place),
+        Verdict::Pass => {
+            dma::write(table, bytes, shadow, d, buf);
+            Answer::Done(0)
+        }
+    }
+}
+
 // Forget: the marks of `n` bytes from `a` on are cleared; the bytes stay.
 pub fn invalidate(state: State, bytes: &[u8], shadow: &mut [u8], a: MemoryAddress, n: u64) -> Answer
     ensures { λ r. ⌜ Meets (calls.invalidate a n) [] state (memoryOf (now (bytes .entry)) (now (shadow .entry))) (told r) [] (memoryOf (now (bytes .entry)) (now (shadow .exit))) state ⌝ }
@@ -226,6 +274,52 @@ pub fn read_register(state: State, kind: u64, selector: u64, buf: &mut [u8]) -> 
         Verdict::Fail(code, place) => Answer::Refused(code, place),
         Verdict::Pass => {
             let n = registers::read(registers, kind, selector, buf);
+            Answer::Done(n as u64)
+        }
+    }
+}
+
+// Loads a stream of parts: registers named take their values, all others become unset.
+pub fn load_parts(state: State, stream: &[u8]) -> Reply
+    ensures { λ r. ⌜ ((m : Memory) → Meets loadParts (now (stream .entry)) state m (told (r .answer)) (now (stream .entry)) m (r .state)) ⌝ }
+{
+    if !sound(state) {
+        return Reply {
+            answer: Answer::Refused(answer::BAD_BENCH, 0),
+            state,
+        };
+    }
+    let registers = state.registers;
+    let loaded = parts::load(registers, state.running, stream);
+    let verdict = loaded.verdict;
+    match verdict {
+        Verdict::Fail(code, place) => Reply {
+            answer: Answer::Refused(code, place),
+            state,
+        },
+        Verdict::Pass => {
+            let next = loaded.registers;
+            Reply {
+                answer: Answer::Done(0),
+                state: with_registers(state, next),
+            }
+        }
+    }
+}
+
+// Saves the registers as a stream of parts at the buffer's start; its length is the result.
+pub fn save_parts(state: State, buf: &mut [u8]) -> Answer
+    ensures { λ r. ⌜ ((m : Memory) → Meets saveParts (now (buf .entry)) state m (told r) (now (buf .exit)) m state) ⌝ }
+{
+    if !sound(state) {
+        return Answer::Refused(answer::BAD_BENCH, 0);
+    }
+    let registers = state.registers;
+    let verdict = parts::check_save(registers, state.running, buf.len());
+    match verdict {
+        Verdict::Fail(code, place) => Answer::Refused(code, place),
+        Verdict::Pass => {
+            let n = parts::save(registers, buf);
             Answer::Done(n as u64)
         }
     }
