@@ -6,7 +6,7 @@ use mathlib.Core.Path.{_≡_, refl, sym, _∙_, ap}
 use mathlib.Core.Bool.{Bool, true, false, false≢true}
 use mathlib.Core.List.{List}
 use lib.Dec.{ltb}
-use lib.ListN.{length, getD, drop, drop-of-length-le}
+use lib.ListN.{length, drop, drop-of-length-le}
 use lib.Seq.{sets, length-sets}
 use borrow.Author.Tests.{ltb-true, ltb-false}
 use Rattle.answer.specs.Codes.{Unmapped}
@@ -19,17 +19,16 @@ use Rattle.wire.proofs.Laws.{sets-all}
 use Rattle.address.specs.Address.{memoryAddress, deviceOffset}
 use Rattle.address.specs.declared.DeviceAddress.{DeviceAddress}
 use Rattle.iommu.specs.Table.{capacity, translate, mapped, inUse}
-use Rattle.iommu.specs.declared.Mapping.{Mapping}
 use Rattle.iommu.specs.declared.Table.{Table}
-use Rattle.iommu.specs.declared.Translation.the-variants.{At, Nowhere}
+use Rattle.iommu.specs.declared.Translation.the-variants.{Nowhere}
 use Rattle.memory.specs.Memory.{Memory, memoryOf, edited, stores}
 use Rattle.memory.proofs.Edits.{edited-bytes-length, edited-shadow-length}
 use Rattle.dma.specs.Transfers.{location, gather, scatter}
 use Rattle.dma.specs.Walk.{Ready, Accepted, runIn, faultOf}
+use Rattle.dma.specs.declared.Run.{Run}
 use Rattle.dma.specs.declared.Run.the-variants.{Gap, Passed, Shows}
-use Rattle.dma.proofs.Table.{none}
-use Rattle.dma.proofs.Walk.{Walk, walk-start, end-nowhere, gap-nowhere, walk-past, run-room, run-translate, walk-run}
-use Rattle.dma.proofs.Transfers.{Run, fault-nowhere, gather-length, gather-more, scatter-more}
+use Rattle.dma.proofs.Walk.{entry, Walk, walk-start, end-nowhere, gap-nowhere, walk-past, run-room, run-translate, walk-run}
+use Rattle.dma.proofs.Transfers.{Contiguous, fault-nowhere, runFault, gather-length, gather-more, scatter-more}
 
 -- ---- judging
 
@@ -56,33 +55,33 @@ module _ {write : Bool} {shadow : List ℕ} {t : Table} {d : DeviceAddress} {n k
   pub judged-end : t .count ≤ i → k < n → firstFault (faultAt write shadow t d) n ≡ Fail Unmapped k
   judged-end h b = unmapped b (end-nowhere (s .walk) h b)
 
-  module _ (more : i < t .count) where
-    pub judged-gap : k < n → runIn (getD (t .entries) i none) (deviceOffset d k) (n - k) ≡ Gap → firstFault (faultAt write shadow t d) n ≡ Fail Unmapped k
-    judged-gap b h = unmapped b (gap-nowhere (s .walk) more b h)
+  -- what the mapping at index i shows from offset k on
+  module _ (more : i < t .count) {r : Run} (is : r ≡ runIn (entry t i) (deviceOffset d k) (n - k)) where
+    pub judged-gap : r ≡ Gap → k < n → firstFault (faultAt write shadow t d) n ≡ Fail Unmapped k
+    judged-gap e b = unmapped b (gap-nowhere (s .walk) more is e b)
 
-    pub judged-past : runIn (getD (t .entries) i none) (deviceOffset d k) (n - k) ≡ Passed → Judged write shadow t d n k (i + 1)
-    judged-past h = record { walk = walk-past (s .walk) more h; clean = s .clean }
+    pub judged-past : r ≡ Passed → Judged write shadow t d n k (i + 1)
+    judged-past e = record { walk = walk-past (s .walk) more is e; clean = s .clean }
 
-    -- a run, and the verdict on it
-    module _ {a len : ℕ} (shows : runIn (getD (t .entries) i none) (deviceOffset d k) (n - k) ≡ Shows a len) {v : Verdict}
-        (is : v ≡ firstFault (λ j. faultOf write shadow (At (memoryAddress (a + j)) (getD (t .entries) i none .rights))) len) where
+    -- a run, and the verdict v on it
+    module _ {a len : ℕ} (e : r ≡ Shows a len) {v : Verdict} (judged : v ≡ firstFault (runFault write shadow a (entry t i .rights)) len) where
       on-run : firstFault (λ j. faultAt write shadow t d (k + j)) len ≡ v
       on-run =
           firstFault-cong _ _ len (λ j h.
-          let e : d .0 + (k + j) ≡ d .0 + k + j = omega arith in
-          rw e (ap (faultOf write shadow) (run-translate (s .walk) more shows j h)))
-          ∙ sym is
+          let same : d .0 + (k + j) ≡ d .0 + k + j = omega arith in
+          rw same (ap (faultOf write shadow) (run-translate (s .walk) more is e j h)))
+          ∙ sym judged
 
       pub judged-fault : (code place : ℕ) → v ≡ Fail code place → firstFault (faultAt write shadow t d) n ≡ Fail code (k + place)
       judged-fault code place h =
-          firstFault-run (faultAt write shadow t d) n k len code place (run-room (s .walk) more shows .1) (s .clean) (on-run ∙ h)
+          firstFault-run (faultAt write shadow t d) n k len code place (run-room (s .walk) more is e .1) (s .clean) (on-run ∙ h)
 
       pub judged-place : (code place : ℕ) → v ≡ Fail code place → place < len
       judged-place code place h = firstFault-fault _ len code place (on-run ∙ h) .below
 
       pub judged-run : v ≡ Pass → Judged write shadow t d n (k + len) (i + 1)
       judged-run h = record {
-        walk = walk-run (s .walk) more shows;
+        walk = walk-run (s .walk) more is e;
         clean = passes-run (faultAt write shadow t d) k len (s .clean) (firstFault-all (λ j. faultAt write shadow t d (k + j)) len (on-run ∙ h));
       }
 
@@ -94,8 +93,8 @@ module _ {t : Table} {size : ℕ} {d : DeviceAddress} {n k i : ℕ} (accepted : 
   unfolding mapped
   nowhere b e = absurd (false≢true (rw e at (accepted .held k b)))
 
-  pub no-gap : {X : Type 0} → i < t .count → k < n → runIn (getD (t .entries) i none) (deviceOffset d k) (n - k) ≡ Gap → X
-  no-gap more b h = nowhere b (gap-nowhere w more b h)
+  pub no-gap : {X : Type 0} → i < t .count → {r : Run} → r ≡ runIn (entry t i) (deviceOffset d k) (n - k) → r ≡ Gap → k < n → X
+  no-gap more is e b = nowhere b (gap-nowhere w more is e b)
 
   pub walk-over : t .count ≤ i → n ≤ k
   walk-over h = go (ltb k n) refl
@@ -104,9 +103,10 @@ module _ {t : Table} {size : ℕ} {d : DeviceAddress} {n k i : ℕ} (accepted : 
       go true e = nowhere (ltb-true k n e) (end-nowhere w h (ltb-true k n e))
       go false e = ltb-false k n e
 
-  pub run-shown : (more : i < t .count) {a len : ℕ} → runIn (getD (t .entries) i none) (deviceOffset d k) (n - k) ≡ Shows a len → Run (inUse t) (deviceOffset d k) a len
+  pub run-shown : (more : i < t .count) {r : Run} (is : r ≡ runIn (entry t i) (deviceOffset d k) (n - k)) {a len : ℕ} → r ≡ Shows a len
+      → Contiguous (inUse t) (deviceOffset d k) a len
   unfolding location
-  run-shown more shows j h = ap location (run-translate w more shows j h)
+  run-shown more is e j h = ap location (run-translate w more is e j h)
 
 -- ---- reading
 
@@ -136,20 +136,20 @@ module _ {t : Table} {bytes : List ℕ} {d : DeviceAddress} {old buf : List ℕ}
   pub reading-end : t .count ≤ i → (shadow : List ℕ) → buf ≡ gather (inUse t) (memoryOf bytes shadow) d (length old)
   reading-end h = reading-done (walk-over (s .accepted) (s .walk) h)
 
-  module _ (more : i < t .count) where
-    pub reading-past : runIn (getD (t .entries) i none) (deviceOffset d k) (length old - k) ≡ Passed → Reading t bytes d old buf k (i + 1)
-    reading-past h = record { accepted = s .accepted; walk = walk-past (s .walk) more h; long = s .long; rest = s .rest }
+  module _ (more : i < t .count) {r : Run} (is : r ≡ runIn (entry t i) (deviceOffset d k) (length old - k)) where
+    pub reading-past : r ≡ Passed → Reading t bytes d old buf k (i + 1)
+    reading-past e = record { accepted = s .accepted; walk = walk-past (s .walk) more is e; long = s .long; rest = s .rest }
 
-    pub reading-run : {a len : ℕ} → runIn (getD (t .entries) i none) (deviceOffset d k) (length old - k) ≡ Shows a len
+    pub reading-run : {a len : ℕ} → r ≡ Shows a len
         → (new : List ℕ) → new ≡ sets buf k (part bytes a len) → Reading t bytes d old new (k + len) (i + 1)
-    reading-run {a} {len} shows new is = record {
+    reading-run {a} {len} e new stored = record {
       accepted = s .accepted;
-      walk = walk-run (s .walk) more shows;
-      long = rw is (length-sets buf k (part bytes a len) ∙ s .long);
+      walk = walk-run (s .walk) more is e;
+      long = rw stored (length-sets buf k (part bytes a len) ∙ s .long);
       rest = λ shadow.
-          rw is
-          (gather-more (inUse t) d k a len (run-shown (s .accepted) (s .walk) more shows) (memoryOf bytes shadow) (length old) buf
-          (run-room (s .walk) more shows .1) (run-room (s .walk) more shows .0)
+          rw stored
+          (gather-more (inUse t) d k a len (run-shown (s .accepted) (s .walk) more is e) (memoryOf bytes shadow) (length old) buf
+          (run-room (s .walk) more is e .1) (run-room (s .walk) more is e .0)
           ∙ s .rest shadow);
     }
 
@@ -181,19 +181,19 @@ module _ {t : Table} {d : DeviceAddress} {buf : List ℕ} {old new : Memory} {k 
   pub writing-end : t .count ≤ i → new ≡ edited (scatter (inUse t) d buf) old
   writing-end h = writing-done (walk-over (s .accepted) (s .walk) h)
 
-  module _ (more : i < t .count) where
-    pub writing-past : runIn (getD (t .entries) i none) (deviceOffset d k) (length buf - k) ≡ Passed → Writing t d buf old new k (i + 1)
-    writing-past h = record { accepted = s .accepted; walk = walk-past (s .walk) more h; bytes-long = s .bytes-long; shadow-long = s .shadow-long; rest = s .rest }
+  module _ (more : i < t .count) {r : Run} (is : r ≡ runIn (entry t i) (deviceOffset d k) (length buf - k)) where
+    pub writing-past : r ≡ Passed → Writing t d buf old new k (i + 1)
+    writing-past e = record { accepted = s .accepted; walk = walk-past (s .walk) more is e; bytes-long = s .bytes-long; shadow-long = s .shadow-long; rest = s .rest }
 
-    pub writing-run : {a len : ℕ} → runIn (getD (t .entries) i none) (deviceOffset d k) (length buf - k) ≡ Shows a len
+    pub writing-run : {a len : ℕ} → r ≡ Shows a len
         → (next : Memory) → next ≡ edited (stores (memoryAddress a) (part buf k len)) new → Writing t d buf old next (k + len) (i + 1)
-    writing-run {a} {len} shows next is = record {
+    writing-run {a} {len} e next stored = record {
       accepted = s .accepted;
-      walk = walk-run (s .walk) more shows;
-      bytes-long = ap (λ (m : Memory). length (m .bytes)) is ∙ edited-bytes-length _ new ∙ s .bytes-long;
-      shadow-long = ap (λ (m : Memory). length (m .shadow)) is ∙ edited-shadow-length _ new ∙ s .shadow-long;
+      walk = walk-run (s .walk) more is e;
+      bytes-long = ap (λ (m : Memory). length (m .bytes)) stored ∙ edited-bytes-length _ new ∙ s .bytes-long;
+      shadow-long = ap (λ (m : Memory). length (m .shadow)) stored ∙ edited-shadow-length _ new ∙ s .shadow-long;
       rest =
-          rw is
-          (scatter-more (inUse t) d k a len (run-shown (s .accepted) (s .walk) more shows) new buf (run-room (s .walk) more shows .1)
+          rw stored
+          (scatter-more (inUse t) d k a len (run-shown (s .accepted) (s .walk) more is e) new buf (run-room (s .walk) more is e .1)
           ∙ s .rest);
     }

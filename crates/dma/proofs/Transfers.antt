@@ -142,20 +142,20 @@ scatter-append ms d (x ∷ xs) ys =
     rw (e, scatter-append ms (deviceOffset d 1) xs ys)
 
 -- the n device addresses from d on show the memory from a on
-abbrev pub Run : List Mapping → DeviceAddress → ℕ → ℕ → Type 0
-Run ms d a n = (j : ℕ) → j < n → location (translate ms (deviceOffset d j)) ≡ memoryAddress (a + j)
+abbrev pub Contiguous : List Mapping → DeviceAddress → ℕ → ℕ → Type 0
+Contiguous ms d a n = (j : ℕ) → j < n → location (translate ms (deviceOffset d j)) ≡ memoryAddress (a + j)
 
-module _ (ms : List Mapping) (d : DeviceAddress) (a n : ℕ) (run : Run ms d a (suc n)) where
+module _ (ms : List Mapping) (d : DeviceAddress) (a n : ℕ) (run : Contiguous ms d a (suc n)) where
   run-first : location (translate ms d) ≡ memoryAddress a
   run-first = rw (add-zero (d .0), add-zero a) at (run 0 (omega arith))
 
-  run-later : Run ms (deviceOffset d 1) (a + 1) n
+  run-later : Contiguous ms (deviceOffset d 1) (a + 1) n
   run-later j h =
       let e : d .0 + suc j ≡ d .0 + 1 + j = omega arith in
       let f : a + suc j ≡ a + 1 + j = omega arith in
       rw (e, f) at (run (suc j) (omega arith))
 
-pub gather-run : (ms : List Mapping) (m : Memory) (d : DeviceAddress) (a n : ℕ) → Run ms d a n → a + n ≤ length (m .bytes)
+pub gather-run : (ms : List Mapping) (m : Memory) (d : DeviceAddress) (a n : ℕ) → Contiguous ms d a n → a + n ≤ length (m .bytes)
     → gather ms m d n ≡ part (m .bytes) a n
 unfolding gather byteAt
 gather-run ms m d a zero run room = refl
@@ -163,14 +163,14 @@ gather-run ms m d a (suc n) run room =
     rw (drop-cons (m .bytes) a 0 (omega arith), run-first ms d a n run, ← add-one a)
     (ap (λ (rest : List ℕ). getD (m .bytes) a 0 ∷ rest) (gather-run ms m (deviceOffset d 1) (a + 1) n (run-later ms d a n run) (omega arith)))
 
-pub scatter-run : (ms : List Mapping) (d : DeviceAddress) (a : ℕ) (xs : List ℕ) → Run ms d a (length xs) → scatter ms d xs ≡ stores (memoryAddress a) xs
+pub scatter-run : (ms : List Mapping) (d : DeviceAddress) (a : ℕ) (xs : List ℕ) → Contiguous ms d a (length xs) → scatter ms d xs ≡ stores (memoryAddress a) xs
 unfolding scatter stores
 scatter-run ms d a [] run = refl
 scatter-run ms d a (x ∷ xs) run =
     rw (run-first ms d a (length xs) run) (ap (λ (rest : List Edit). put (memoryAddress a) x ∷ rest) (scatter-run ms (deviceOffset d 1) (a + 1) xs (run-later ms d a (length xs) run)))
 
 -- a run of a transfer that has come to offset k, and what is still to come
-module _ (ms : List Mapping) (d : DeviceAddress) (k a len : ℕ) (run : Run ms (deviceOffset d k) a len) where
+module _ (ms : List Mapping) (d : DeviceAddress) (k a len : ℕ) (run : Contiguous ms (deviceOffset d k) a len) where
   next : d .0 + (k + len) ≡ d .0 + k + len
   next = omega arith
 

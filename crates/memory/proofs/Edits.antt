@@ -1,12 +1,9 @@
 -- Laws of edits: a run of stores, and a run of marks cleared, as what they make of the lists of bytes and marks.
-use Prim.Native.Nat.{ℕ, zero, suc, _+_, _≤_}
-use native.Mathlib.Nat.{zero-add}
+use Prim.Native.Nat.{ℕ, zero, suc}
 use native.Mathlib.Numerals.{add-one}
-use native.Mathlib.Omega.{arith}
 use mathlib.Core.Path.{_≡_, refl, sym, _∙_, ap}
-use mathlib.Core.Bool.{Bool, true, false}
 use mathlib.Core.List.{List, [], _∷_, _++_}
-use lib.ListN.{length, set, replicate, length-set, length-replicate}
+use lib.ListN.{length, replicate, length-set, length-replicate}
 use lib.Seq.{sets}
 use Rattle.wire.proofs.Laws.{sets-all}
 use Rattle.answer.specs.Tests.{pick}

@@ -1,13 +1,11 @@
 -- Laws of the checks of host transfers and of an invalidation, by the tests that decide them.
 use Prim.Native.Nat.{ℕ, _+_, _≤_, _<_}
-use mathlib.Core.Path.{_≡_, refl, sym, _∙_}
+use mathlib.Core.Path.{_≡_, sym, _∙_}
 use mathlib.Core.List.{List}
-use lib.ListN.{length}
 use borrow.Author.Tests.{lt-leb, le-leb, lt-ltb, le-ltb, leb-true}
 use Rattle.answer.specs.Codes.{Range, TooLong}
 use Rattle.answer.specs.Checks.{_then_}
 use Rattle.answer.specs.Limits.{transferLimit, lengthCheck}
-use Rattle.answer.specs.declared.Verdict.{Verdict}
 use Rattle.answer.specs.declared.Verdict.the-variants.{Pass, Fail}
 use Rattle.answer.proofs.Checks.{then-pass, then-next, then-fail, then-assoc, when-true, when-false, unless-pass, unless-true, unless-false}
 use Rattle.address.specs.Address.{inMemoryRange}

@@ -1,7 +1,7 @@
 -- `dma::first_fault` meets its contract: the offsets passed have no fault.
-use Prim.Native.Nat.{ℕ, _-_, _<_}
+use Prim.Native.Nat.{_-_}
 use native.Mathlib.Omega.{arith}
-use mathlib.Core.Path.{_≡_, sym, _∙_}
+use mathlib.Core.Path.{sym}
 use mathlib.Core.Logic.{⊎-elim}
 use borrow.Author.Needs.{needs}
 use Rattle.dma.proofs.Walk.{length-mapped, entry-range, run-room}
@@ -47,7 +47,7 @@ returns-2 : tie.Need-returns-2 Inv-loop μ-loop
 returns-2 c =
     let r = c .before .before in
     let t = r .before .before .before .before in
-    sym (judged-gap (t .before .loop .inv) (t .loop-test .taken) (omega arith) (sym (r .run-in .ensures) ∙ c .enum-told .given .1))
+    sym (judged-gap (t .before .loop .inv) (t .loop-test .taken) (r .run-in .ensures) (c .enum-told .given .1) (omega arith))
 
 enum-told-2 : tie.Need-enum-told-2 Inv-loop μ-loop
 enum-told-2 c = search needs
@@ -59,7 +59,7 @@ run-fault-requires : tie.Need-run-fault-requires Inv-loop μ-loop
 run-fault-requires c κs =
     let r = c .before .before .before in
     let t = r .before .before .before .before in
-    let room = run-room (t .before .loop .inv .walk) (t .loop-test .taken) (sym (r .run-in .ensures) ∙ c .before .run .given .1) in
+    let room = run-room (t .before .loop .inv .walk) (t .loop-test .taken) (r .run-in .ensures) (c .before .run .given .1) in
     (room .0, room .2 (omega arith))
 
 enum-told-3 : tie.Need-enum-told-3 Inv-loop μ-loop
@@ -70,7 +70,7 @@ add-k c =
     let v = c .before .before .before in
     let r = v .before .before .before in
     let t = r .before .before .before .before in
-    let room = run-room (t .before .loop .inv .walk) (t .loop-test .taken) (sym (r .run-in .ensures) ∙ v .before .run .given .1) in
+    let room = run-room (t .before .loop .inv .walk) (t .loop-test .taken) (r .run-in .ensures) (v .before .run .given .1) in
     omega (arith, room .1)
 
 enum-known-verdict : tie.Need-enum-known-verdict Inv-loop μ-loop
@@ -82,9 +82,8 @@ add-t27 c =
     let v = f .before in
     let r = v .before .before .before in
     let t = r .before .before .before .before in
-    let shows = sym (r .run-in .ensures) ∙ v .before .run .given .1 in
-    let room = run-room (t .before .loop .inv .walk) (t .loop-test .taken) shows in
-    let place = judged-place (t .before .loop .inv) (t .loop-test .taken) shows (f .run-fault .ensures) _ _ (c .before .verdict .given .1) in
+    let room = run-room (t .before .loop .inv .walk) (t .loop-test .taken) (r .run-in .ensures) (v .before .run .given .1) in
+    let place = judged-place (t .before .loop .inv) (t .loop-test .taken) (r .run-in .ensures) (v .before .run .given .1) (f .run-fault .ensures) _ _ (c .before .verdict .given .1) in
     omega (arith, room .1, place)
 
 returns-3 : tie.Need-returns-3 Inv-loop μ-loop
@@ -94,7 +93,7 @@ returns-3 c =
     let r = v .before .before .before in
     let t = r .before .before .before .before in
     sym
-    (judged-fault (t .before .loop .inv) (t .loop-test .taken) (sym (r .run-in .ensures) ∙ v .before .run .given .1)
+    (judged-fault (t .before .loop .inv) (t .loop-test .taken) (r .run-in .ensures) (v .before .run .given .1)
     (f .run-fault .ensures) _ _ (c .before .verdict .given .1))
 
 add-i : tie.Need-add-i Inv-loop μ-loop
@@ -108,10 +107,10 @@ loop-again c =
     let r = c .before in
     let t = r .before .before .before .before in
     ⊎-elim
-    (λ w. rw (w .2) (judged-past (t .before .loop .inv) (t .loop-test .taken) (sym (r .run-in .ensures) ∙ w .1 .given .1)))
+    (λ w. rw (w .2) (judged-past (t .before .loop .inv) (t .loop-test .taken) (r .run-in .ensures) (w .1 .given .1)))
     (λ w.
     rw (w .6)
-    (judged-run (t .before .loop .inv) (t .loop-test .taken) (sym (r .run-in .ensures) ∙ w .1 .given .1) (w .3 .ensures) (w .5 .given .1)))
+    (judged-run (t .before .loop .inv) (t .loop-test .taken) (r .run-in .ensures) (w .1 .given .1) (w .3 .ensures) (w .5 .given .1)))
     (c .match .came)
 
 returns-4 : tie.Need-returns-4 Inv-loop μ-loop

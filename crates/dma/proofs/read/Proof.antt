@@ -1,7 +1,6 @@
 -- `dma::read` meets its contract: what is still to be read makes of the buffer what the whole makes of the one given.
-use Prim.Native.Nat.{ℕ, _-_}
+use Prim.Native.Nat.{_-_}
 use native.Mathlib.Omega.{arith}
-use mathlib.Core.Path.{_≡_, sym, _∙_}
 use mathlib.Core.Logic.{⊎-elim}
 use borrow.Author.Needs.{needs}
 use Rattle.dma.proofs.Walk.{length-mapped, entry-range, run-room}
@@ -55,7 +54,7 @@ copy-requires c κs =
     let v = c .before .before in
     let r = v .before .before in
     let t = r .before .before .before .before in
-    let room = run-room (t .before .loop .inv .walk) (t .loop-test .taken) (sym (r .run-in .ensures) ∙ v .run .given .1) in
+    let room = run-room (t .before .loop .inv .walk) (t .loop-test .taken) (r .run-in .ensures) (v .run .given .1) in
     omega (arith, room .0, room .1, t .before .loop .inv .long)
 
 add-k : tie.Need-add-k Inv-loop μ-loop
@@ -63,7 +62,7 @@ add-k c =
     let v = c .before .before .before .before .before in
     let r = v .before .before in
     let t = r .before .before .before .before in
-    omega (arith, run-room (t .before .loop .inv .walk) (t .loop-test .taken) (sym (r .run-in .ensures) ∙ v .run .given .1) .1)
+    omega (arith, run-room (t .before .loop .inv .walk) (t .loop-test .taken) (r .run-in .ensures) (v .run .given .1) .1)
 
 add-i : tie.Need-add-i Inv-loop μ-loop
 add-i c = search needs
@@ -76,9 +75,9 @@ loop-again c =
     let r = c .before in
     let t = r .before .before .before .before in
     let s = t .before .loop .inv in
-    ⊎-elim (λ w. no-gap (s .accepted) (s .walk) (t .loop-test .taken) (omega arith) (sym (r .run-in .ensures) ∙ w .1 .given .1))
-    (⊎-elim (λ w. rw (w .2, w .3) (reading-past s (t .loop-test .taken) (sym (r .run-in .ensures) ∙ w .1 .given .1)))
-    (λ w. rw (w .7, w .8) (reading-run s (t .loop-test .taken) (sym (r .run-in .ensures) ∙ w .1 .given .1) _ (w .4 .ensures))))
+    ⊎-elim (λ w. no-gap (s .accepted) (s .walk) (t .loop-test .taken) (r .run-in .ensures) (w .1 .given .1) (omega arith))
+    (⊎-elim (λ w. rw (w .2, w .3) (reading-past s (t .loop-test .taken) (r .run-in .ensures) (w .1 .given .1)))
+    (λ w. rw (w .7, w .8) (reading-run s (t .loop-test .taken) (r .run-in .ensures) (w .1 .given .1) _ (w .4 .ensures))))
     (c .match .came)
 
 same-length-2 : tie.Need-same-length-2 Inv-loop μ-loop

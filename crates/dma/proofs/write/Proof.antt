@@ -1,7 +1,6 @@
 -- `dma::write` meets its contract: what is still to be stored makes of memory what the whole makes of the one given.
-use Prim.Native.Nat.{ℕ, _-_}
+use Prim.Native.Nat.{_-_}
 use native.Mathlib.Omega.{arith}
-use mathlib.Core.Path.{_≡_, sym, _∙_}
 use mathlib.Core.Logic.{⊎-elim}
 use borrow.Author.Needs.{needs}
 use Rattle.memory.specs.Memory.{memoryOf}
@@ -62,7 +61,7 @@ store-requires c κs =
     let r = v .before .before in
     let t = r .before .before .before .before in
     let s = t .before .loop .inv in
-    let room = run-room (s .walk) (t .loop-test .taken) (sym (r .run-in .ensures) ∙ v .run .given .1) in
+    let room = run-room (s .walk) (t .loop-test .taken) (r .run-in .ensures) (v .run .given .1) in
     omega (arith, room .0, room .1, s .bytes-long, s .shadow-long, t .before .before .before .before .before .pre .1 .0)
 
 add-k : tie.Need-add-k Inv-loop μ-loop
@@ -70,7 +69,7 @@ add-k c =
     let v = c .before .before .before .before .before .before .before .before in
     let r = v .before .before in
     let t = r .before .before .before .before in
-    omega (arith, run-room (t .before .loop .inv .walk) (t .loop-test .taken) (sym (r .run-in .ensures) ∙ v .run .given .1) .1)
+    omega (arith, run-room (t .before .loop .inv .walk) (t .loop-test .taken) (r .run-in .ensures) (v .run .given .1) .1)
 
 add-i : tie.Need-add-i Inv-loop μ-loop
 add-i c = search needs
@@ -83,9 +82,9 @@ loop-again c =
     let r = c .before in
     let t = r .before .before .before .before in
     let s = t .before .loop .inv in
-    ⊎-elim (λ w. no-gap (s .accepted) (s .walk) (t .loop-test .taken) (omega arith) (sym (r .run-in .ensures) ∙ w .1 .given .1))
-    (⊎-elim (λ w. rw (w .2, w .3, w .4) (writing-past s (t .loop-test .taken) (sym (r .run-in .ensures) ∙ w .1 .given .1)))
-    (λ w. rw (w .10, w .11, w .12) (writing-run s (t .loop-test .taken) (sym (r .run-in .ensures) ∙ w .1 .given .1) _ (w .5 .ensures))))
+    ⊎-elim (λ w. no-gap (s .accepted) (s .walk) (t .loop-test .taken) (r .run-in .ensures) (w .1 .given .1) (omega arith))
+    (⊎-elim (λ w. rw (w .2, w .3, w .4) (writing-past s (t .loop-test .taken) (r .run-in .ensures) (w .1 .given .1)))
+    (λ w. rw (w .10, w .11, w .12) (writing-run s (t .loop-test .taken) (r .run-in .ensures) (w .1 .given .1) _ (w .5 .ensures))))
     (c .match .came)
 
 same-length-3 : tie.Need-same-length-3 Inv-loop μ-loop
