@@ -73,7 +73,7 @@ module _ {t : Table} {size : ℕ} {d : DeviceAddress} {n k i : ℕ} (w : Walk t 
       tells : {s : Run} → r ≡ s → Means (entry t i) (deviceOffset d k) (n - k) s
       tells {s} e = run-means _ _ _ s (sym is ∙ e)
 
-      -- nothing: it begins behind offset k
+      -- nothing: it begins past offset k
       pub gap-nowhere : r ≡ Gap → k < n → translate (inUse t) (deviceOffset d k) ≡ Nowhere
       unfolding soundTable
       gap-nowhere e b =

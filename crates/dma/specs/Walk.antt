@@ -27,7 +27,7 @@ pub record Accepted (ms : List Mapping) (d : DeviceAddress) (n : ℕ) : Type 0 w
   pub range : d .0 + n ≤ deviceLimit
   pub held : (i : ℕ) → i < n → mapped (translate ms (deviceOffset d i)) ≡ true
 
--- what a mapping shows of the `n` device addresses from `d` on: nothing, since it begins behind `d` or ends before it; or the
+-- what a mapping shows of the `n` device addresses from `d` on: nothing, since it begins past `d` or ends before it; or the
 -- first of them, up to its end
 unfoldable pub runIn : Mapping → DeviceAddress → ℕ → Run
 runIn m d n =

@@ -20,16 +20,17 @@ use iommu::Table;
 // Device addresses lie below this one.
 const DEVICE_LIMIT: u64 = 0x1_0000_0000_0000;
 
-// What a mapping shows of a transfer from its device address on.
+// What one mapping shows of a transfer, from an address of it on.
 enum Run {
-    // Nothing: it begins behind the address.
+    // Nothing: it begins past the address.
     Gap,
     // Nothing: it ends before the address.
     Passed,
-    // So many bytes of memory from an index on.
+    // The index in memory of the first byte that it shows, and how many it shows.
     Shows(usize, usize),
 }
 
+// What a mapping shows of the `n` device addresses from `d` on.
 fn run_in(m: Mapping, d: DeviceAddress, n: usize) -> Run
     requires { ⌜ inRange memoryLimit m ≡ true ⌝ }
     ensures { λ r. ⌜ r ≡ runIn m d n ⌝ }

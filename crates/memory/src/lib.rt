@@ -11,9 +11,9 @@ use address::MemoryAddress;
 use answer::Verdict;
 
 // How a byte's mark is kept in the shadow. Every mark but this one means unwritten.
-const WRITTEN: u8 = 1;
+const INITIALIZED: u8 = 1;
 
-const UNWRITTEN: u8 = 0;
+const UNINITIALIZED: u8 = 0;
 
 // A transfer is at most this many bytes.
 pub const TRANSFER_LIMIT: usize = 65536;
@@ -26,7 +26,7 @@ fn any_unwritten(shadow: &[u8], a: usize, n: usize) -> u8
     let mut found: u8 = 0;
     let mut i: usize = 0;
     while i < n {
-        if shadow[a + i] != WRITTEN {
+        if shadow[a + i] != INITIALIZED {
             found = 1;
         }
         i += 1;
@@ -45,7 +45,7 @@ pub fn written_run(shadow: &[u8], a: usize, n: usize) -> usize
     }
     let mut run: usize = 0;
     while run < n {
-        if shadow[a + run] != WRITTEN {
+        if shadow[a + run] != INITIALIZED {
             return run;
         }
         run += 1;
@@ -105,7 +105,7 @@ pub fn store(bytes: &mut [u8], shadow: &mut [u8], a: usize, src: &[u8], from: us
     ensures { λ r. ⌜ memoryOf (now (bytes .exit)) (now (shadow .exit)) ≡ edited (stores (memoryAddress a) (part (now (src .entry)) from n)) (memoryOf (now (bytes .entry)) (now (shadow .entry))) ⌝ }
 {
     wire::copy(bytes, a, src, from, n);
-    wire::fill(shadow, a, n, WRITTEN);
+    wire::fill(shadow, a, n, INITIALIZED);
 }
 
 // Clears the marks of the `n` bytes from `a` on, whatever the bytes are.
@@ -113,5 +113,5 @@ pub fn clear(shadow: &mut [u8], a: usize, n: usize)
     requires { ⌜ a + n ≤ length (now shadow) ⌝ }
     ensures { λ r. ⌜ ((bytes : List ℕ) → memoryOf bytes (now (shadow .exit)) ≡ edited (clears (memoryAddress a) n) (memoryOf bytes (now (shadow .entry)))) ⌝ }
 {
-    wire::fill(shadow, a, n, UNWRITTEN);
+    wire::fill(shadow, a, n, UNINITIALIZED);
 }
