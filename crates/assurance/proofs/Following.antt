@@ -18,16 +18,18 @@ use Rattle.answer.proofs.Checks.{never, then-pass, when-pass, unless-pass}
 use Rattle.address.specs.Address.{memoryAddress, deviceOffset, memoryOffset}
 use Rattle.address.specs.declared.DeviceAddress.{DeviceAddress}
 use Rattle.wire.specs.Field.{part}
-use Rattle.iommu.specs.Table.{holds, translate, soundTable, inside}
+use Rattle.wire.proofs.Laws.{sets-all}
+use Rattle.iommu.specs.Table.{holds, translate, inside}
 use Rattle.iommu.specs.Requests.{mapChecks}
 use Rattle.iommu.specs.declared.Mapping.{Mapping}
 use Rattle.iommu.specs.declared.Translation.{Translation}
 use Rattle.iommu.specs.declared.Translation.the-variants.{At, Nowhere}
-use Rattle.iommu.proofs.Find.{find, translationIn, translate-find, Apart, insert-find, free-find, without-find, without-apart, sound-apart}
+use Rattle.iommu.proofs.Lookup.{find, located, unless, translate-find, Apart, find-insert, free-find, find-without, without-apart, sound-apart}
 use Rattle.memory.specs.Shadow.{initialized, shadowLength}
 use Rattle.memory.specs.Memory.{Memory, edited, byteAt, bytesFrom}
 use Rattle.memory.proofs.Marks.{initialized-below}
 use Rattle.dma.specs.Transfers.{readFault, writeFault, deviceReadChecks, deviceWriteChecks, location, gather}
+use Rattle.dma.proofs.Transfers.{gather-length}
 use Rattle.emulator.specs.Machine.{Machine, Emulator, both, usable, lendable, sound, soundMappings, poweredOn, withMappings, withRegisters, withRunning}
 use Rattle.emulator.specs.Effect.{Result, value, Effect, Outcome, effectOf, outcomeOf, after, filled}
 use Rattle.emulator.specs.Requests.{Request, getApiVersion, checkExtension, getIommuInfo, mapDma, unmapDma, getInfo, getRegionInfo, getIrqInfo, resetDevice, Entry, identify, requestedMapping, requestedStart, requestedSize, listedChecks, requestChecks, listedEffect, requestEffect}
@@ -35,7 +37,7 @@ use Rattle.emulator.specs.Calls.{Call, powerOn, request, lookUp, deviceRead, de
 use Rattle.assurance.specs.Overwrite.{mask}
 use Rattle.assurance.specs.Runs.{Ask, Others, Event, written, disturbed, lentTo, event, turn, run}
 use Rattle.assurance.specs.Ledger.{Bytes, Ledger, empty, requestEntry, listedEntry, entry, inputBytes, fed, heldAt, FilledBy, Owed, OwedIf, Follows}
-use Rattle.assurance.proofs.Overwrite.{length-overwrite, overwrite-overwrite, length-mask, getD-kept, fills}
+use Rattle.assurance.proofs.Overwrite.{length-overwrite, overwrite-overwrite, length-mask, getD-kept}
 use Rattle.assurance.proofs.Blind.{seen, blind, read-clear, host-read-passed, transfer-passed}
 use Rattle.assurance.proofs.Agreement.{mask-lent}
 use Rattle.assurance.proofs.Books.{Holds, stores-holds, scatter-holds, clears-holds, cleared-outside}
@@ -48,7 +50,7 @@ record Books (l : Ledger) (e : Emulator) : Type 0 where
 
 translates : (l : Ledger) (e : Emulator) → Books l e → (d : DeviceAddress) → translate (e .machine .mappings) d ≡ translate (l .mappings) d
 translates l e h d =
-    translate-find (e .machine .mappings) d ∙ ap (λ (o : Option Mapping). translationIn o d) (h .maps d) ∙ sym (translate-find (l .mappings) d)
+    translate-find (e .machine .mappings) d ∙ ap (located d) (h .maps d) ∙ sym (translate-find (l .mappings) d)
 
 -- ---- others
 
@@ -67,8 +69,8 @@ books-disturbed l w e h =
 -- ---- the books after each call, accepted
 
 usable-apart : (e : Emulator) → usable both e ≡ true → Apart (e .machine .mappings)
-unfolding usable sound soundMappings soundTable
-usable-apart e h = sound-apart _ 0 _ (and-true _ _ (and-true _ _ (and-true _ _ (and-true _ _ h .1) .0) .1) .1)
+unfolding usable sound soundMappings
+usable-apart e h = sound-apart _ _ (and-true _ _ (and-true _ _ (and-true _ _ (and-true _ _ h .1) .0) .1) .1)
 
 module _ (l : Ledger) (e : Emulator) (buf : List ℕ) (h : Books l e) where
   listed-books : (q : Request) → Apart (e .machine .mappings) → listedChecks q buf e ≡ Pass → Books (requestEntry q buf l) (after (listedEffect q buf e) e)
@@ -81,14 +83,14 @@ module _ (l : Ledger) (e : Emulator) (buf : List ℕ) (h : Books l e) where
       let free = when-pass _ _ (then-pass _ _ (then-pass _ _ (then-pass _ _ (then-pass _ _ (then-pass _ _ ok .1) .1) .1) .1) .0) in
       record {
         bytes = h .bytes;
-        maps = λ d. insert-find m (e .machine .mappings) free d ∙ ap (λ (o : Option Mapping). pick (holds m d) (some m) o) (h .maps d);
+        maps = λ d. find-insert m (e .machine .mappings) free d ∙ ap (λ (o : Option Mapping). pick (holds m d) (some m) o) (h .maps d);
         apart = ((λ d p. sym (h .maps d) ∙ free-find m (e .machine .mappings) free d p), h .apart);
       }
   listed-books unmapDma a ok =
       let test : Mapping → Bool = inside (requestedStart buf) (requestedSize buf) in
       record {
         bytes = h .bytes;
-        maps = without-find test (e .machine .mappings) (l .mappings) a (h .apart) (h .maps);
+        maps = λ d. find-without test (e .machine .mappings) a d ∙ ap (unless test) (h .maps d) ∙ sym (find-without test (l .mappings) (h .apart) d);
         apart = without-apart test (l .mappings) (h .apart);
       }
   listed-books getInfo a ok = h
@@ -137,11 +139,6 @@ books-after start l e buf h good ok = record { bytes = h .bytes; maps = h .maps;
 
 -- ---- what an accepted read puts into the buffer
 
-gather-length : (ms : List Mapping) (m : Memory) (n : ℕ) (d : DeviceAddress) → length (gather ms m d n) ≡ n
-unfolding gather
-gather-length ms m zero d = refl
-gather-length ms m (suc n) d = ap suc (gather-length ms m n (deviceOffset d 1))
-
 gather-at : (ms : List Mapping) (m : Memory) (n : ℕ) (d : DeviceAddress) (i : ℕ) → i < n → getD (gather ms m d n) i 0 ≡ byteAt m (location (translate ms (deviceOffset d i)))
 unfolding gather
 gather-at ms m zero d i h = absurd (not-suc-le-zero h)
@@ -158,7 +155,7 @@ read-held l m (At a rights) h e = h .bytes a (read-clear (m .shadow) (At a right
 
 filled-by : (held : ℕ → Option ℕ) (lent out : List ℕ) (n : ℕ) → length lent ≡ n → length out ≡ n
     → ((i : ℕ) → i < n → held i ≡ some (getD out i 0)) → FilledBy held n (sets lent 0 out)
-filled-by held lent out n e f h = rw (fills lent out (f ∙ sym e)) (record { whole = f; each = h })
+filled-by held lent out n e f h = rw (sets-all lent out (f ∙ sym e)) (record { whole = f; each = h })
 
 owed : (c : Call) (l : Ledger) (e : Emulator) (buf lent : List ℕ) → length lent ≡ length buf → Books l e → ownChecks c buf e ≡ Pass
     → Owed l c (length buf) (filled (effect c buf e .pieces) lent)
@@ -168,7 +165,7 @@ owed (request target number) l e buf lent p h ok = tt
 owed (lookUp d) l e buf lent p h ok = tt
 owed (deviceRead d) l e buf lent p h ok =
     let ms : List Mapping = e .machine .mappings in
-    filled-by _ lent (gather ms (e .memory) d (length buf)) (length buf) p (gather-length ms (e .memory) (length buf) d)
+    filled-by _ lent (gather ms (e .memory) d (length buf)) (length buf) p (gather-length ms (e .memory) d (length buf))
     (λ i q. rw (gather-at ms (e .memory) (length buf) d i q, ← translates l e h (deviceOffset d i))
     (read-held l (e .memory) _ (h .bytes) (transfer-passed _ ms d (length buf) ok i q)))
 owed (deviceWrite d) l e buf lent p h ok = tt

@@ -18,10 +18,6 @@ use Rattle.dma.specs.declared.Run.{Run}
 use Rattle.dma.specs.declared.Run.the-variants.{Gap, Passed, Shows}
 use Rattle.dma.proofs.Table.{none, holds-inside, holds-past, range-facts, range-wider, sound-at, translate-gap, translate-end, translate-here, translate-next, Shown, Means, run-means}
 
--- an array of structs: owning it tells the length of what its list maps to (for `search (needs, length-mapped)`)
-pub length-mapped : (X Y : Type 0) (f : X → Y) (l : List X) (n : ℕ) → length (map f l) ≡ n → length l ≡ n
-length-mapped X Y f l n e = sym (length-map l f) ∙ e
-
 abbrev pub entry : Table → ℕ → Mapping
 entry t i = getD (t .entries) i none
 

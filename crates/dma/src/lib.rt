@@ -17,9 +17,6 @@ use answer::Verdict;
 use iommu::Mapping;
 use iommu::Table;
 
-// Device addresses lie below this one.
-const DEVICE_LIMIT: u64 = 0x1_0000_0000_0000;
-
 // What one mapping shows of a transfer, from an address of it on.
 enum Run {
     // Nothing: it begins past the address.
@@ -113,10 +110,10 @@ fn check_transfer(table: Table, shadow: &[u8], d: DeviceAddress, n: usize, write
     requires { ⌜ Ready table (length (now shadow)) ⌝ }
     ensures { λ r. ⌜ r ≡ transferChecks (faultOf write (now (shadow .entry))) (inUse table) d n ⌝ }
 {
-    if memory::TRANSFER_LIMIT < n {
+    if answer::TRANSFER_LIMIT < n {
         return Verdict::Fail(answer::TOO_LONG, 0);
     }
-    if DEVICE_LIMIT - (n as u64) < d.0 {
+    if address::DEVICE_LIMIT - (n as u64) < d.0 {
         return Verdict::Fail(answer::RANGE, 0);
     }
     first_fault(table, shadow, d, n, write)

@@ -6,16 +6,14 @@ use mathlib.Core.Bool.{true, false}
 use mathlib.Core.List.{List, []}
 use lib.ListN.{length}
 use lib.Seq.{sets, take-length}
-use borrow.Author.Tests.{leb-true}
 use Rattle.answer.specs.Answer.{done, refused}
 use Rattle.answer.specs.declared.Verdict.{Verdict}
 use Rattle.answer.specs.declared.Verdict.the-variants.{Pass, Fail}
-use Rattle.answer.proofs.Checks.{then-pass, unless-pass}
-use Rattle.address.specs.Address.{inMemoryRange}
 use Rattle.address.specs.declared.MemoryAddress.{MemoryAddress}
 use Rattle.wire.specs.Field.{part}
 use Rattle.memory.specs.Memory.{Memory, edited, stores, clears, bytesFrom}
 use Rattle.memory.specs.Transfers.{hostWriteChecks, hostReadChecks, invalidateChecks}
+use Rattle.memory.proofs.Transfers.{invalidate-room, host-write-room, host-read-room}
 use Rattle.emulator.specs.Machine.{both, usable, emulatorOf}
 use Rattle.emulator.specs.Effect.{value, filled}
 use Rattle.emulator.specs.Calls.{hostWrite, hostRead, invalidate, given, ownChecks, effect}
@@ -27,22 +25,13 @@ use Rattle.emulator.proofs.Soundness.{Ready, ready}
 -- a range that passed its checks lies in memory, and in its marks
 module _ (a : MemoryAddress) (n : ℕ) (s : State) (m : Memory) (good : usable both (emulatorOf s m) ≡ true) where
   pub write-room : hostWriteChecks (length (m .bytes)) a (n) ≡ Pass → (a .0 + n ≤ length (m .bytes)) × (a .0 + n ≤ length (m .shadow))
-  unfolding hostWriteChecks inMemoryRange
-  write-room e =
-      let room = leb-true _ _ (unless-pass _ _ (then-pass _ _ e .1)) in
-      (room, omega (arith, ready s m good .level))
+  write-room e = (host-write-room (length (m .bytes)) a n e, omega (arith, host-write-room (length (m .bytes)) a n e, ready s m good .level))
 
   pub read-room : hostReadChecks (length (m .shadow)) (m .shadow) a (n) ≡ Pass → a .0 + n ≤ length (m .bytes)
-  unfolding hostReadChecks inMemoryRange
-  read-room e =
-      let room : a .0 + n ≤ length (m .shadow) = leb-true _ _ (unless-pass _ _ (then-pass _ _ (then-pass _ _ e .1) .0)) in
-      omega (arith, ready s m good .level)
+  read-room e = omega (arith, host-read-room (length (m .shadow)) a n (m .shadow) e, ready s m good .level)
 
   pub clear-room : invalidateChecks (length (m .bytes)) a n ≡ Pass → a .0 + n ≤ length (m .shadow)
-  unfolding invalidateChecks inMemoryRange
-  clear-room e =
-      let room : a .0 + n ≤ length (m .bytes) = leb-true _ _ (unless-pass _ _ e) in
-      omega (arith, ready s m good .level)
+  clear-room e = omega (arith, invalidate-room (length (m .bytes)) a n e, ready s m good .level)
 
 module _ (a : MemoryAddress) (buf : List ℕ) (s : State) (m : Memory) (good : usable both (emulatorOf s m) ≡ true) where
   -- ---- host store

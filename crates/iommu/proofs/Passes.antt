@@ -19,10 +19,6 @@ use Rattle.iommu.proofs.Soundness.{Facts, sound-at}
 abbrev pub blank : Mapping
 blank = record { device = record { 0 = 0 }; memory = record { 0 = 0 }; size = 0; rights = 0 }
 
--- an array of structs: owning it tells the length of what its list maps to (for `search (needs, length-mapped)`)
-pub length-mapped : (X Y : Type 0) (f : X → Y) (l : List X) (n : ℕ) → length (map f l) ≡ n → length l ≡ n
-length-mapped X Y f l n e = sym (length-map l f) ∙ e
-
 -- what is read at an index
 abbrev pub entry : Table → ℕ → Mapping
 entry t i = getD (t .entries) i blank

@@ -8,7 +8,7 @@ ghost use lib.ListN.{take, drop};
 ghost use Rattle.answer.specs.Tests.{_and_};
 ghost use Rattle.address.specs.Address.{deviceLimit, aligned};
 ghost use Rattle.iommu.specs.Table.{capacity, holds as held, translate as translated, validRights, alignedMapping, inRange, soundMapping, soundTable, touches as touched, inside as within, overlaps as overlapped, cuts as cut, insert as inserted, without, sizeOf, inUse, holding, Sound, Bounded};
-ghost use Rattle.iommu.specs.Requests.{translateChecks, mapChecks, unmapChecks};
+ghost use Rattle.iommu.specs.Requests.{mapChecks, unmapChecks};
 use address::DeviceAddress;
 use address::MemoryAddress;
 use answer::Verdict;
@@ -132,20 +132,6 @@ pub fn translate(table: Table, d: DeviceAddress) -> Translation
         i += 1;
     }
     Translation::Nowhere
-}
-
-// The checks of a look-up.
-pub fn check_translate(table: Table, d: DeviceAddress) -> Verdict
-    requires { ⌜ Sound table ⌝ }
-    ensures { λ r. ⌜ r ≡ translateChecks (inUse table) d ⌝ }
-{
-    if address::DEVICE_LIMIT <= d.0 {
-        return Verdict::Fail(answer::RANGE, 0);
-    }
-    match translate(table, d) {
-        Translation::At(_, _) => Verdict::Pass,
-        Translation::Nowhere => Verdict::Fail(answer::UNMAPPED, 0),
-    }
 }
 
 // Whether a mapping and the `n` device addresses from `d` on share an address. Neither sum leaves 64 bits.

@@ -13,14 +13,6 @@ use Rattle.address.specs.declared.MemoryAddress.{MemoryAddress}
 use Rattle.memory.specs.Transfers.{hostWriteChecks, hostReadChecks, invalidateChecks, unwrittenIn}
 
 module _ (size : ℕ) (a : MemoryAddress) (n : ℕ) where
-  pub range-fail : size < a .0 + n → invalidateChecks size a n ≡ Fail Range 0
-  unfolding invalidateChecks inMemoryRange
-  range-fail h = unless-false _ _ (lt-leb _ _ h)
-
-  pub range-pass : a .0 + n ≤ size → invalidateChecks size a n ≡ Pass
-  unfolding invalidateChecks inMemoryRange
-  range-pass h = unless-true _ _ (le-leb _ _ h)
-
   pub host-write-long : transferLimit < n → hostWriteChecks size a n ≡ Fail TooLong 0
   unfolding hostWriteChecks lengthCheck
   host-write-long h = then-fail _ _ _ _ (when-true _ _ (lt-ltb _ _ h))

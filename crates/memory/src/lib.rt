@@ -15,9 +15,6 @@ const INITIALIZED: u8 = 1;
 
 const UNINITIALIZED: u8 = 0;
 
-// A transfer is at most this many bytes.
-pub const TRANSFER_LIMIT: usize = 65536;
-
 // 0 where each of the `n` bytes from `a` on is initialized. One pass with no way out, which the compiler vectorises.
 fn any_unwritten(shadow: &[u8], a: usize, n: usize) -> u8
     requires { ⌜ a + n ≤ length (now shadow) ⌝ }
@@ -69,10 +66,7 @@ pub fn check_written(shadow: &[u8], a: usize, n: usize) -> Verdict
 pub fn check_invalidate(size: u64, a: MemoryAddress, n: u64) -> Verdict
     ensures { λ r. ⌜ r ≡ invalidateChecks size a n ⌝ }
 {
-    if size < n {
-        return Verdict::Fail(answer::RANGE, 0);
-    }
-    if size - n < a.0 {
+    if !address::in_memory_range(size, a, n) {
         return Verdict::Fail(answer::RANGE, 0);
     }
     Verdict::Pass
@@ -82,7 +76,7 @@ pub fn check_invalidate(size: u64, a: MemoryAddress, n: u64) -> Verdict
 pub fn check_host_write(size: u64, a: MemoryAddress, n: usize) -> Verdict
     ensures { λ r. ⌜ r ≡ hostWriteChecks size a n ⌝ }
 {
-    if TRANSFER_LIMIT < n {
+    if answer::TRANSFER_LIMIT < n {
         return Verdict::Fail(answer::TOO_LONG, 0);
     }
     check_invalidate(size, a, n as u64)

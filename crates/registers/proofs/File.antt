@@ -24,10 +24,6 @@ use Rattle.registers.specs.declared.Register.{Register}
 use Rattle.registers.specs.declared.Registers.{Registers}
 use Rattle.registers.proofs.Values.{value-size}
 
--- owning an array of structs tells the length of what its list maps to (for `search (needs, length-mapped)`)
-pub length-mapped : (X Y : Type 0) (f : X → Y) (l : List X) (n : ℕ) → length (map f l) ≡ n → length l ≡ n
-length-mapped X Y f l n e = sym (length-map l f) ∙ e
-
 -- what a list of registers reads as past its end
 abbrev pub absent : Register
 absent = record { set = false; bytes = [] }

@@ -4,7 +4,8 @@ use native.Mathlib.Omega.{arith}
 use mathlib.Core.Path.{sym}
 use mathlib.Core.Logic.{⊎-elim}
 use borrow.Author.Needs.{needs}
-use Rattle.dma.proofs.Walk.{length-mapped, entry-range, run-room}
+use Rattle.dma.proofs.Walk.{entry-range, run-room}
+use Rattle.answer.proofs.Arrays.{length-mapped}
 use Rattle.dma.proofs.Steps.{Judged, judged-start, judged-pass, judged-end, judged-gap, judged-past, judged-fault, judged-place, judged-run}
 use Rattle.dma.proofs.first_fault.Statement.{statement}
 use Rattle.dma.proofs.first_fault.Tie as tie

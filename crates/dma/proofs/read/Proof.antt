@@ -3,7 +3,8 @@ use Prim.Native.Nat.{_-_}
 use native.Mathlib.Omega.{arith}
 use mathlib.Core.Logic.{⊎-elim}
 use borrow.Author.Needs.{needs}
-use Rattle.dma.proofs.Walk.{length-mapped, entry-range, run-room}
+use Rattle.dma.proofs.Walk.{entry-range, run-room}
+use Rattle.answer.proofs.Arrays.{length-mapped}
 use Rattle.dma.proofs.Steps.{no-gap, Reading, reading-start, reading-done, reading-end, reading-past, reading-run}
 use Rattle.dma.proofs.read.Statement.{statement}
 use Rattle.dma.proofs.read.Tie as tie

@@ -4,7 +4,8 @@ use native.Mathlib.Omega.{arith}
 use mathlib.Core.Logic.{⊎-elim}
 use borrow.Author.Needs.{needs}
 use Rattle.memory.specs.Memory.{memoryOf}
-use Rattle.dma.proofs.Walk.{length-mapped, entry-range, run-room}
+use Rattle.dma.proofs.Walk.{entry-range, run-room}
+use Rattle.answer.proofs.Arrays.{length-mapped}
 use Rattle.dma.proofs.Steps.{no-gap, Writing, writing-start, writing-done, writing-end, writing-past, writing-run}
 use Rattle.dma.proofs.write.Statement.{statement}
 use Rattle.dma.proofs.write.Tie as tie

@@ -12,7 +12,8 @@ use Rattle.answer.proofs.Tests.{and-true, found-false, found-true}
 use Rattle.address.specs.Address.{inDeviceRange}
 use Rattle.iommu.specs.Table.{capacity, validRights, alignedMapping, inRange, overlaps, inUse}
 use Rattle.iommu.specs.Requests.{mapChecks}
-use Rattle.iommu.proofs.Passes.{in-use-length, length-mapped}
+use Rattle.iommu.proofs.Passes.{in-use-length}
+use Rattle.answer.proofs.Arrays.{length-mapped}
 use Rattle.iommu.proofs.check_map.Statement.{statement}
 use Rattle.iommu.proofs.check_map.Tie as tie
 

@@ -6,7 +6,8 @@ use mathlib.Core.Path.{_≡_}
 use lib.ListN.{length}
 use Rattle.answer.specs.Tests.{_and_}
 use Rattle.iommu.specs.Table.{cuts, touches, inside}
-use Rattle.iommu.proofs.Passes.{Scanned, pass-start, scan-found, scan-on, scan-none, pass-facts, length-mapped}
+use Rattle.iommu.proofs.Passes.{Scanned, pass-start, scan-found, scan-on, scan-none, pass-facts}
+use Rattle.answer.proofs.Arrays.{length-mapped}
 use borrow.Author.Needs.{needs}
 use Rattle.iommu.proofs.cuts.Statement.{statement}
 use Rattle.iommu.proofs.cuts.Tie as tie

@@ -3,7 +3,7 @@ use Prim.Native.Nat.{_≤_}
 use native.Mathlib.Omega.{arith}
 use mathlib.Core.Path.{_≡_}
 use lib.ListN.{length}
-use Rattle.iommu.proofs.Passes.{length-mapped}
+use Rattle.answer.proofs.Arrays.{length-mapped}
 use Rattle.iommu.proofs.Places.{Shifted, shift-start, shift-on, shift-done}
 use borrow.Author.Needs.{needs}
 use Rattle.iommu.proofs.insert.Statement.{statement}

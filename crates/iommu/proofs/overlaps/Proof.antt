@@ -4,7 +4,8 @@ use native.Mathlib.Omega.{arith}
 use mathlib.Core.Path.{_≡_}
 use lib.ListN.{length}
 use Rattle.iommu.specs.Table.{overlaps, touches}
-use Rattle.iommu.proofs.Passes.{Scanned, pass-start, scan-found, scan-on, scan-none, pass-facts, length-mapped}
+use Rattle.iommu.proofs.Passes.{Scanned, pass-start, scan-found, scan-on, scan-none, pass-facts}
+use Rattle.answer.proofs.Arrays.{length-mapped}
 use borrow.Author.Needs.{needs}
 use Rattle.iommu.proofs.overlaps.Statement.{statement}
 use Rattle.iommu.proofs.overlaps.Tie as tie

@@ -3,7 +3,8 @@ use Prim.Native.Nat.{_-_}
 use native.Mathlib.Omega.{arith}
 use mathlib.Core.Path.{_≡_}
 use lib.ListN.{length}
-use Rattle.iommu.proofs.Passes.{pass-start, length-mapped}
+use Rattle.iommu.proofs.Passes.{pass-start}
+use Rattle.answer.proofs.Arrays.{length-mapped}
 use Rattle.iommu.proofs.Places.{Placed, place-on, place-found, place-last}
 use borrow.Author.Needs.{needs}
 use Rattle.iommu.proofs.place.Statement.{statement}

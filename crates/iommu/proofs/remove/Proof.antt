@@ -6,7 +6,8 @@ use mathlib.Core.Logic.{⊎-elim}
 use lib.ListN.{length}
 use Rattle.iommu.specs.Table.{inside, inUse}
 use Rattle.iommu.proofs.Soundness.{size-limit}
-use Rattle.iommu.proofs.Passes.{pass-facts, length-mapped}
+use Rattle.iommu.proofs.Passes.{pass-facts}
+use Rattle.answer.proofs.Arrays.{length-mapped}
 use Rattle.iommu.proofs.Compaction.{Compacted, compact-start, compact-read, compact-drop, compact-fits, compact-keep, compact-table, compact-size}
 use borrow.Author.Needs.{needs}
 use Rattle.iommu.proofs.remove.Statement.{statement}

@@ -8,7 +8,8 @@ use Rattle.answer.specs.Tests.{_and_}
 use Rattle.answer.proofs.Tests.{and-false, and-second, found-false, found-true}
 use Rattle.iommu.specs.Table.{soundFrom, soundTable, inUse}
 use Rattle.iommu.proofs.Soundness.{mapping-facts}
-use Rattle.iommu.proofs.Passes.{Left, pass-start, pass-on, pass-stop, pass-end, length-mapped}
+use Rattle.iommu.proofs.Passes.{Left, pass-start, pass-on, pass-stop, pass-end}
+use Rattle.answer.proofs.Arrays.{length-mapped}
 use borrow.Author.Needs.{needs}
 use Rattle.iommu.proofs.sound.Statement.{statement}
 use Rattle.iommu.proofs.sound.Tie as tie

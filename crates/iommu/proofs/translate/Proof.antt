@@ -5,7 +5,8 @@ use mathlib.Core.Path.{_≡_, sym, _∙_}
 use lib.ListN.{length}
 use Rattle.answer.proofs.Tests.{pick-true, pick-false}
 use Rattle.iommu.specs.Table.{translate, addressIn, inUse}
-use Rattle.iommu.proofs.Passes.{Left, pass-start, pass-on, pass-stop, pass-end, pass-facts, length-mapped}
+use Rattle.iommu.proofs.Passes.{Left, pass-start, pass-on, pass-stop, pass-end, pass-facts}
+use Rattle.answer.proofs.Arrays.{length-mapped}
 use Rattle.iommu.proofs.Lookup.{holds-facts}
 use borrow.Author.Needs.{needs}
 use Rattle.iommu.proofs.translate.Statement.{statement}

@@ -6,7 +6,8 @@ use mathlib.Core.List.{List}
 use lib.ListN.{length, take, drop, getD, set, length-set, length-drop}
 use lib.Seq.{take-all, getD-drop}
 use Rattle.registers.specs.declared.Register.{Register}
-use Rattle.registers.proofs.File.{absent, length-mapped}
+use Rattle.registers.proofs.File.{absent}
+use Rattle.answer.proofs.Arrays.{length-mapped}
 use Rattle.parts.proofs.Loading.{copied}
 use borrow.Author.Needs.{needs}
 use Rattle.parts.proofs.kept.Statement.{statement}

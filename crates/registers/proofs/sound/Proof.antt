@@ -8,7 +8,8 @@ use borrow.Author.Tests.{not-true, not-false}
 use Rattle.answer.specs.Tests.{_and_}
 use Rattle.registers.specs.File.{soundFile, soundFrom, soundValue, valueIn, fileFrom, fileOf}
 use Rattle.registers.specs.declared.Register.{Register}
-use Rattle.registers.proofs.File.{length-mapped, sound-status, sound-rest, sound-more, sound-end}
+use Rattle.registers.proofs.File.{sound-status, sound-rest, sound-more, sound-end}
+use Rattle.answer.proofs.Arrays.{length-mapped}
 use borrow.Author.Needs.{needs}
 use Rattle.registers.proofs.sound.Statement.{statement}
 use Rattle.registers.proofs.sound.Tie as tie
