@@ -1,0 +1,20 @@
+-- `capi::glint_save_parts` meets its contract: it is that of `emulator::save_parts`.
+use borrow.Author.Needs.{needs}
+use Rattle.capi.proofs.Told.{as-told}
+use Rattle.capi.proofs.glint_save_parts.Statement.{statement}
+use Rattle.capi.proofs.glint_save_parts.Tie as tie
+
+save-parts-requires : tie.Need-save-parts-requires
+save-parts-requires c κs = search needs
+
+numbers-requires : tie.Need-numbers-requires
+numbers-requires c κs = search needs
+
+same-length : tie.Need-same-length
+same-length c = search needs
+
+returns : tie.Need-returns
+returns c = λ m. as-told (c .numbers .ensures) (c .before .before .before .save-parts .ensures m)
+
+pub glint-save-parts-spec : {M : Type 1} → statement M
+glint-save-parts-spec = tie.close (tie.spec save-parts-requires numbers-requires same-length returns)

@@ -1,0 +1,234 @@
+// What C and Rust link: every call with C's calling convention, thin over the proved call and with its promise. A byte slice is passed
+// as a pointer and a length; the kept state goes in by value and comes back by value. include/glintbasket.h declares these functions.
+use address::DeviceAddress;
+use address::MemoryAddress;
+use answer::Answer;
+use emulator::Location;
+use emulator::Reply;
+use emulator::State;
+ghost use mathlib.Core.Path.{_≡_};
+ghost use mathlib.Core.List.{List, []};
+ghost use Rattle.address.specs.Address.{deviceAddress, memoryAddress};
+ghost use Rattle.memory.specs.Memory.{Memory, memoryOf};
+ghost use Rattle.emulator.specs.Calls.{powerOn, lookUp, deviceRead, deviceWrite, hostWrite, hostRead, invalidate, setRegister, readRegister, loadParts, saveParts, stop, start};
+ghost use Rattle.emulator.specs.Contract.{Meets, told, toldLocation};
+ghost use Rattle.capi.specs.Outcome.{toldBy, toldByFound};
+
+// An answer: a result, or the number and the place of a refusal.
+#[repr(C)]
+pub struct Outcome {
+    pub refused: bool,
+    pub code: u32,
+    pub place: u64,
+    pub result: u64,
+}
+
+// An answer, and the state to keep.
+#[repr(C)]
+pub struct Kept {
+    pub outcome: Outcome,
+    pub state: State,
+}
+
+// Look-up's answer: its result is a memory address and rights.
+#[repr(C)]
+pub struct Found {
+    pub outcome: Outcome,
+    pub address: MemoryAddress,
+    pub rights: u32,
+}
+
+// An answer as numbers; those that it has no use for are 0.
+fn numbers(a: Answer) -> Outcome
+    ensures { λ r. ⌜ toldBy r ≡ told a ⌝ }
+{
+    match a {
+        Answer::Done(result) => Outcome {
+            refused: false,
+            code: 0,
+            place: 0,
+            result,
+        },
+        Answer::Refused(code, place) => Outcome {
+            refused: true,
+            code,
+            place,
+            result: 0,
+        },
+    }
+}
+
+fn location(l: Location) -> Found
+    ensures { λ r. ⌜ toldByFound r ≡ toldLocation l ⌝ }
+{
+    match l {
+        Location::At(address, rights) => Found {
+            outcome: Outcome {
+                refused: false,
+                code: 0,
+                place: 0,
+                result: 0,
+            },
+            address,
+            rights,
+        },
+        Location::Nowhere(code, place) => Found {
+            outcome: Outcome {
+                refused: true,
+                code,
+                place,
+                result: 0,
+            },
+            address: MemoryAddress(0),
+            rights: 0,
+        },
+    }
+}
+
+fn with_state(r: Reply) -> Kept
+    ensures { λ k. ⌜ (toldBy (k .outcome) ≡ told (r .answer)) × (k .state ≡ r .state) ⌝ }
+{
+    let answer = r.answer;
+    let state = r.state;
+    let outcome = numbers(answer);
+    Kept { outcome, state }
+}
+
+// Fresh start.
+#[no_mangle]
+pub extern "C" fn glint_power_on(state: State, bytes: &[u8], shadow: &mut [u8]) -> Kept
+    ensures { λ r. ⌜ Meets powerOn [] state (memoryOf (now (bytes .entry)) (now (shadow .entry))) (toldBy (r .outcome)) [] (memoryOf (now (bytes .entry)) (now (shadow .exit))) (r .state) ⌝ }
+{
+    with_state(emulator::power_on(state, bytes, shadow))
+}
+
+// Look-up.
+#[no_mangle]
+pub extern "C" fn glint_look_up(state: State, device: u64) -> Found
+    ensures { λ r. ⌜ ((m : Memory) → Meets (lookUp (deviceAddress device)) [] state m (toldByFound r) [] m state) ⌝ }
+{
+    location(emulator::look_up(state, DeviceAddress(device)))
+}
+
+// Card read.
+#[no_mangle]
+pub extern "C" fn glint_device_read(
+    state: State,
+    bytes: &[u8],
+    shadow: &[u8],
+    device: u64,
+    buf: &mut [u8],
+) -> Outcome
+    ensures { λ r. ⌜ Meets (deviceRead (deviceAddress device)) (now (buf .entry)) state (memoryOf (now (bytes .entry)) (now (shadow .entry))) (toldBy r) (now (buf .exit)) (memoryOf (now (bytes .entry)) (now (shadow .entry))) state ⌝ }
+{
+    numbers(emulator::device_read(state, bytes, shadow, DeviceAddress(device), buf))
+}
+
+// Card write.
+#[no_mangle]
+pub extern "C" fn glint_device_write(
+    state: State,
+    bytes: &mut [u8],
+    shadow: &mut [u8],
+    device: u64,
+    buf: &[u8],
+) -> Outcome
+    ensures { λ r. ⌜ Meets (deviceWrite (deviceAddress device)) (now (buf .entry)) state (memoryOf (now (bytes .entry)) (now (shadow .entry))) (toldBy r) (now (buf .entry)) (memoryOf (now (bytes .exit)) (now (shadow .exit))) state ⌝ }
+{
+    numbers(emulator::device_write(state, bytes, shadow, DeviceAddress(device), buf))
+}
+
+// Host store.
+#[no_mangle]
+pub extern "C" fn glint_host_write(
+    state: State,
+    bytes: &mut [u8],
+    shadow: &mut [u8],
+    address: u64,
+    buf: &[u8],
+) -> Outcome
+    ensures { λ r. ⌜ Meets (hostWrite (memoryAddress address)) (now (buf .entry)) state (memoryOf (now (bytes .entry)) (now (shadow .entry))) (toldBy r) (now (buf .entry)) (memoryOf (now (bytes .exit)) (now (shadow .exit))) state ⌝ }
+{
+    numbers(emulator::host_write(state, bytes, shadow, MemoryAddress(address), buf))
+}
+
+// Host load.
+#[no_mangle]
+pub extern "C" fn glint_host_read(
+    state: State,
+    bytes: &[u8],
+    shadow: &[u8],
+    address: u64,
+    buf: &mut [u8],
+) -> Outcome
+    ensures { λ r. ⌜ Meets (hostRead (memoryAddress address)) (now (buf .entry)) state (memoryOf (now (bytes .entry)) (now (shadow .entry))) (toldBy r) (now (buf .exit)) (memoryOf (now (bytes .entry)) (now (shadow .entry))) state ⌝ }
+{
+    numbers(emulator::host_read(state, bytes, shadow, MemoryAddress(address), buf))
+}
+
+// Forget.
+#[no_mangle]
+pub extern "C" fn glint_invalidate(
+    state: State,
+    bytes: &[u8],
+    shadow: &mut [u8],
+    address: u64,
+    length: u64,
+) -> Outcome
+    ensures { λ r. ⌜ Meets (invalidate (memoryAddress address) length) [] state (memoryOf (now (bytes .entry)) (now (shadow .entry))) (toldBy r) [] (memoryOf (now (bytes .entry)) (now (shadow .exit))) state ⌝ }
+{
+    numbers(emulator::invalidate(state, bytes, shadow, MemoryAddress(address), length))
+}
+
+// Sets a register.
+#[no_mangle]
+pub extern "C" fn glint_set_register(state: State, kind: u64, selector: u64, value: &[u8]) -> Kept
+    ensures { λ r. ⌜ ((m : Memory) → Meets (setRegister kind selector) (now (value .entry)) state m (toldBy (r .outcome)) (now (value .entry)) m (r .state)) ⌝ }
+{
+    with_state(emulator::set_register(state, kind, selector, value))
+}
+
+// Reads a register.
+#[no_mangle]
+pub extern "C" fn glint_read_register(
+    state: State,
+    kind: u64,
+    selector: u64,
+    buf: &mut [u8],
+) -> Outcome
+    ensures { λ r. ⌜ ((m : Memory) → Meets (readRegister kind selector) (now (buf .entry)) state m (toldBy r) (now (buf .exit)) m state) ⌝ }
+{
+    numbers(emulator::read_register(state, kind, selector, buf))
+}
+
+// Loads a stream of parts.
+#[no_mangle]
+pub extern "C" fn glint_load_parts(state: State, stream: &[u8]) -> Kept
+    ensures { λ r. ⌜ ((m : Memory) → Meets loadParts (now (stream .entry)) state m (toldBy (r .outcome)) (now (stream .entry)) m (r .state)) ⌝ }
+{
+    with_state(emulator::load_parts(state, stream))
+}
+
+// Saves the registers as a stream of parts.
+#[no_mangle]
+pub extern "C" fn glint_save_parts(state: State, buf: &mut [u8]) -> Outcome
+    ensures { λ r. ⌜ ((m : Memory) → Meets saveParts (now (buf .entry)) state m (toldBy r) (now (buf .exit)) m state) ⌝ }
+{
+    numbers(emulator::save_parts(state, buf))
+}
+
+// Stops the device.
+#[no_mangle]
+pub extern "C" fn glint_stop(state: State) -> Kept
+    ensures { λ r. ⌜ ((m : Memory) → Meets stop [] state m (toldBy (r .outcome)) [] m (r .state)) ⌝ }
+{
+    with_state(emulator::stop(state))
+}
+
+// Starts the device.
+#[no_mangle]
+pub extern "C" fn glint_start(state: State) -> Kept
+    ensures { λ r. ⌜ ((m : Memory) → Meets start [] state m (toldBy (r .outcome)) [] m (r .state)) ⌝ }
+{
+    with_state(emulator::start(state))
+}
