@@ -1,24 +1,22 @@
 -- Laws of loading: one part, and the loop over the parts.
-use Prim.Native.Nat.{ℕ, zero, suc, _+_, _-_, _^_, _≤_, _<_}
-use native.Mathlib.Nat.{not-suc-le-zero}
+use Prim.Native.Nat.{ℕ, zero, suc, _+_, _-_, _≤_, _<_}
 use native.Mathlib.Numerals.{add-one}
 use native.Mathlib.Omega.{arith}
 use mathlib.Core.Path.{_≡_, refl, sym, _∙_, ap}
 use mathlib.Core.Bool.{Bool, true, false}
-use mathlib.Core.List.{List, [], _∷_, _++_, map}
+use mathlib.Core.List.{List, [], _∷_, _++_}
 use mathlib.Core.Option.{Option, none, some}
 use lib.ListN.{length, getD, set, take, drop, replicate}
 use lib.Seq.{take-suc, take-suc-set}
-use lib.Dec.{eqb, ltb, leb}
-use borrow.Author.Tests.{lt-ltb, le-leb, ltb-true, leb-true, eqb-true, le-ltb}
-use Rattle.answer.specs.Tests.{_and_, pick, isSome}
+use lib.Dec.{eqb, leb}
+use borrow.Author.Tests.{lt-ltb, le-leb, leb-true, le-ltb}
+use Rattle.answer.specs.Tests.{_and_, pick}
 use Rattle.answer.specs.Codes.{Missing}
 use Rattle.answer.specs.Checks.{_then_, _when_, _unless_, _at_}
 use Rattle.answer.specs.Limits.{transferLimit, lengthCheck}
 use Rattle.answer.specs.Answer.{Answer, done, refused, settle, _onward_, verdict}
-use Rattle.answer.specs.declared.Verdict.{Verdict}
 use Rattle.answer.specs.declared.Verdict.the-variants.{Pass, Fail}
-use Rattle.answer.proofs.Tests.{and-true, and-made, pick-true, pick-false}
+use Rattle.answer.proofs.Tests.{and-true, and-made, pick-true}
 use Rattle.answer.proofs.Checks.{then-pass, unless-pass}
 use Rattle.registers.specs.Rows.{CommonField, QueueConfig, rowCount, statusRow, rowOf, sizeOf, selects, listed, selectorWidth}
 use Rattle.registers.specs.File.{File, valueIn, fileFrom, registerOf, slotsOf}
@@ -26,7 +24,7 @@ use Rattle.registers.specs.declared.Register.{Register}
 use Rattle.registers.proofs.Rows.{selected, size-most}
 use Rattle.registers.proofs.Values.{value-size}
 use Rattle.registers.proofs.File.{absent, set-at, file-set}
-use Rattle.parts.specs.Step.{headerSize, stepAt, valueTo}
+use Rattle.parts.specs.Step.{stepAt, valueTo}
 use Rattle.parts.specs.Load.{Seen, nothingSeen, listedChecks, partChecks, taken, finish, onStep, loadFrom, load, seenIn, placeable, takenRows, loadedSlots}
 use Rattle.parts.specs.declared.Step.{Step}
 use Rattle.parts.specs.declared.Step.the-variants.{Part, End, Refused}

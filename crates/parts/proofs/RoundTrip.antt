@@ -1,6 +1,5 @@
 -- What is saved is stepped over part by part, has 41 to 429 bytes, and loads again.
 use Prim.Native.Nat.{ℕ, zero, suc, _+_, _-_, _^_, _≤_, _<_}
-use native.Mathlib.Nat.{not-suc-le-zero}
 use native.Mathlib.Omega.{arith}
 use mathlib.Core.Path.{_≡_, refl, sym, _∙_, ap}
 use mathlib.Core.Bool.{Bool, true, false, false≢true}
@@ -12,23 +11,22 @@ use lib.Dec.{eqb, ltb, leb}
 use borrow.Author.Tests.{ltb-true, leb-true, eqb-true, eq-eqb, lt-ltb, lt-leb}
 use Rattle.answer.specs.Tests.{_and_, _or_, pick, isSome}
 use Rattle.answer.specs.Checks.{_then_, _when_, _unless_, _at_}
-use Rattle.answer.specs.Answer.{Answer, done, settle, _onward_}
+use Rattle.answer.specs.Answer.{done, settle, _onward_}
 use Rattle.answer.specs.declared.Verdict.the-variants.{Pass}
 use Rattle.answer.proofs.Tests.{and-true, below, below-at}
 use Rattle.wire.specs.Field.{field, bytesOf}
 use Rattle.wire.proofs.Laws.{field-bytes}
-use Rattle.registers.specs.Rows.{rowCount, statusRow, kindOf, selectorOf, sizeOf, rowFrom, rowOf, selects, listed, selectorWidth}
+use Rattle.registers.specs.Rows.{rowCount, statusRow, kindOf, selectorOf, sizeOf, selects, listed, selectorWidth}
 use Rattle.registers.specs.Values.{offered, valueChecks}
 use Rattle.registers.specs.File.{File, keptCount, current, soundFrom, soundFile, sizedFrom}
 use Rattle.registers.proofs.Rows.{size-most, kind-fits, selector-fits, row-of-row}
 use Rattle.registers.proofs.Values.{value-size}
 use Rattle.registers.proofs.File.{current-sound, current-sized, sound-sized}
-use Rattle.parts.specs.Step.{headerSize, valueSize, partAt, partStep, stepAt, valueTo, valueIn, valueAt}
-use Rattle.parts.specs.Load.{Seen, nothingSeen, flagsOf, listedChecks, partChecks, taken, finish, onStep, loadFrom, load}
+use Rattle.parts.specs.Step.{headerSize, valueSize, partAt, partStep, stepAt, valueTo}
+use Rattle.parts.specs.Load.{Seen, flagsOf, listedChecks, partChecks, taken, finish, onStep, loadFrom, load}
 use Rattle.parts.specs.Save.{encoded, partOf, savedFrom, saved}
 use Rattle.parts.specs.RoundTrip.{RoundTrip}
-use Rattle.parts.specs.declared.Step.{Step}
-use Rattle.parts.specs.declared.Step.the-variants.{Part, End}
+use Rattle.parts.specs.declared.Step.the-variants.{Part}
 use Rattle.parts.proofs.Steps.{part-whole, step-end, step-part}
 use Rattle.parts.proofs.Saving.{length-encoded}
 use Rattle.parts.proofs.Loading.{load-parts}

@@ -174,12 +174,11 @@ fn take_part(seen: [Register; 15], kind: u64, selector: u64, v: &[u8]) -> [Regis
     rows
 }
 
-// The registers that are kept: those behind the row of offered features.
-fn kept(seen: [Register; 15]) -> Registers
+// The registers given, each with what is seen of its row: a register that no part named is not set any more.
+fn replaced(registers: Registers, seen: [Register; 15]) -> Registers
     ensures { λ r. ⌜ r .slots ≡ drop 1 seen ⌝ }
 {
-    let none = registers::unset();
-    let mut slots = [none; 14];
+    let mut slots = registers.slots;
     let mut i: usize = 0;
     while i < 14 {
         let r = seen[i + 1];
@@ -198,7 +197,7 @@ fn finish(registers: Registers, seen: [Register; 15], at: usize) -> Loaded
     if status.set {
         return Loaded {
             verdict: Verdict::Pass,
-            registers: kept(seen),
+            registers: replaced(registers, seen),
         };
     }
     Loaded {

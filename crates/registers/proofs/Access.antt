@@ -2,10 +2,10 @@
 use Prim.Native.Nat.{ℕ, zero, suc, _+_, _-_, _≤_, _<_}
 use native.Mathlib.Nat.{not-suc-le-zero}
 use native.Mathlib.Omega.{arith}
-use mathlib.Core.Path.{_≡_, refl, sym, _∙_, ap}
-use mathlib.Core.Bool.{Bool, true, false}
+use mathlib.Core.Path.{_≡_, sym, _∙_, ap}
+use mathlib.Core.Bool.{true, false}
 use mathlib.Core.List.{List}
-use mathlib.Core.Option.{Option, none, some}
+use mathlib.Core.Option.{Option, some}
 use lib.ListN.{length, set, take}
 use lib.Dec.{ltb}
 use borrow.Author.Tests.{eqb-false, ltb-false}
@@ -14,7 +14,8 @@ use Rattle.answer.specs.Codes.{Unset, NoSpace}
 use Rattle.answer.specs.Checks.{_then_, _when_, _unless_}
 use Rattle.answer.specs.declared.Verdict.the-variants.{Pass}
 use Rattle.answer.proofs.Checks.{then-pass, unless-pass, when-pass}
-use Rattle.registers.specs.Rows.{OfferedFeatures, rowCount, sizeOf, rowOf, listed}
+use Rattle.registers.specs.Rows.{rowCount, sizeOf, rowOf, listed}
+use Rattle.registers.specs.Values.{valueChecks}
 use Rattle.registers.specs.File.{File, current, withValue, valueIn, fileFrom, fileOf, registerOf}
 use Rattle.registers.specs.Access.{selectorChecks, setChecks, setTo, readChecks, orEmpty, readValue}
 use Rattle.registers.specs.declared.Register.{Register}
@@ -46,10 +47,15 @@ settable kind selector v h =
       size = value-size _ _ v (b .1);
     }
 
-kept-value : (file : File) (i : ℕ) (v : List ℕ) → 0 < i → withValue file i v ≡ set file (i - 1) (some v)
+pub kept-value : (file : File) (i : ℕ) (v : List ℕ) → 0 < i → withValue file i v ≡ set file (i - 1) (some v)
 unfolding withValue
 kept-value file zero v h = absurd (not-suc-le-zero h)
 kept-value file (suc i) v h = let e : suc i - 1 ≡ i = omega arith in rw e
+
+-- the value that may be set passes its own checks
+pub set-value : (kind selector : ℕ) (v : List ℕ) → setChecks kind selector v ≡ Pass → valueChecks (rowOf kind selector) false v ≡ Pass
+unfolding setChecks
+set-value kind selector v h = then-pass _ _ (then-pass _ _ (then-pass _ _ h .1) .1) .1
 
 -- the registers that `set` gives are the file with the register set
 pub set-file : (old new : Registers) (kind selector : ℕ) (v : List ℕ) → setChecks kind selector v ≡ Pass

@@ -5,11 +5,10 @@ use native.Mathlib.Numerals.{add-one}
 use native.Mathlib.Omega.{arith}
 use mathlib.Core.Path.{_≡_, refl, sym, _∙_, ap}
 use mathlib.Core.Bool.{Bool, true, false, false≢true}
-use mathlib.Core.List.{List, [], _∷_, _++_, map}
+use mathlib.Core.List.{List, [], _∷_, map}
 use mathlib.Core.Option.{Option, none, some}
 use lib.ListN.{length, getD, set, take, drop, replicate, length-map, drop-of-length-le}
 use lib.Seq.{sets, take-at, drop-cons, sets-eq}
-use lib.Dec.{eqb}
 use borrow.Author.Tests.{eq-eqb, eqb-true}
 use Rattle.answer.specs.Tests.{_and_, pick, isSome}
 use Rattle.answer.specs.Checks.{_then_, _when_, _unless_, passes}
@@ -19,7 +18,7 @@ use Rattle.answer.proofs.Tests.{and-true, and-made, and-false}
 use Rattle.wire.specs.Field.{field, bytesOf}
 use Rattle.registers.specs.Rows.{statusRow, kindOf, sizeOf}
 use Rattle.registers.specs.Values.{offered, contentChecks, valueChecks}
-use Rattle.registers.specs.File.{File, current, withValue, soundFrom, soundValue, soundFile, valueIn, fileFrom, fileOf, registerOf, slotsOf, sizedFrom}
+use Rattle.registers.specs.File.{File, current, soundFrom, soundValue, soundFile, valueIn, fileFrom, fileOf, registerOf, slotsOf, sizedFrom}
 use Rattle.registers.specs.declared.Register.{Register}
 use Rattle.registers.specs.declared.Registers.{Registers}
 use Rattle.registers.proofs.Values.{value-size}

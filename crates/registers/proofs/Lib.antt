@@ -2,3 +2,4 @@ pub mod Rows
 pub mod Values
 pub mod File
 pub mod Access
+pub mod Soundness

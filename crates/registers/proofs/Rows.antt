@@ -2,15 +2,15 @@
 use Prim.Native.Nat.{ℕ, zero, suc, _+_, _-_, _^_, _≤_, _<_}
 use native.Mathlib.Numerals.{add-one}
 use native.Mathlib.Omega.{arith}
-use mathlib.Core.Path.{_≡_, refl, sym, _∙_, ap, subst}
+use mathlib.Core.Path.{_≡_, refl}
 use mathlib.Core.Bool.{Bool, true, false}
 use mathlib.Core.List.{map}
 use lib.ListN.{getD, List·getD-map}
 use lib.Dec.{eqb, ltb, leb}
 use borrow.Author.Tests.{eq-eqb, ne-eqb, eqb-true, leb-true, ltb-true}
 use Rattle.answer.specs.Tests.{_and_, pick}
-use Rattle.answer.proofs.Tests.{and-true, below, below-at, pick-true}
-use Rattle.registers.specs.Rows.{Row, rows, noRow, rowCount, OfferedFeatures, DriverFeatures, QueueConfig, NotifyConfig, kindOf, selectorOf, sizeOf, rowFrom, rowOf, selects, selectorWidth}
+use Rattle.answer.proofs.Tests.{and-true, below, below-at}
+use Rattle.registers.specs.Rows.{Row, rows, noRow, rowCount, OfferedFeatures, DriverFeatures, QueueConfig, NotifyConfig, kindOf, selectorOf, sizeOf, rowFrom, rowOf, selects}
 
 -- A column of the table: a list that computes to it has at each place what the row there has.
 pub column : (f : Row → ℕ) (i : ℕ) → getD (map f rows) i (f noRow) ≡ f (getD rows i noRow)

@@ -1,6 +1,5 @@
 -- `parts::check_listed` meets its contract.
-use native.Mathlib.Omega.{arith}
-use mathlib.Core.Path.{_≡_, sym, _∙_, ap}
+use mathlib.Core.Path.{_∙_}
 use borrow.Author.Tests.{eq-eqb, ne-eqb, lt-ltb, le-ltb}
 use Rattle.answer.specs.Checks.{_then_, _unless_}
 use Rattle.registers.specs.Rows.{selects}

@@ -1,5 +1,5 @@
 -- `parts::check_part` meets its contract.
-use mathlib.Core.Path.{_≡_, sym, _∙_, ap}
+use mathlib.Core.Path.{_∙_}
 use borrow.Author.Tests.{eq-eqb, ne-eqb, le-leb, lt-leb}
 use Rattle.answer.specs.Tests.{pick}
 use Rattle.answer.specs.Checks.{_then_, _unless_, _when_}

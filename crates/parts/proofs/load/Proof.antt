@@ -1,5 +1,5 @@
 -- `parts::load` meets its contract.
-use mathlib.Core.Path.{_≡_, refl, sym, _∙_, ap}
+use mathlib.Core.Path.{refl, _∙_}
 use borrow.Author.Tests.{lt-ltb}
 use Rattle.answer.specs.Checks.{_then_, _when_}
 use Rattle.answer.specs.Limits.{lengthCheck}

@@ -1,13 +1,11 @@
 -- `parts::load_parts` meets its contract: the parts from `at` on decide, over what is seen.
 use Prim.Native.Nat.{ℕ, _-_}
 use native.Mathlib.Omega.{arith}
-use mathlib.Core.Path.{_≡_, refl, sym, _∙_, ap}
-use mathlib.Core.List.{List}
-use lib.ListN.{length, replicate}
+use mathlib.Core.Path.{_≡_, sym, _∙_, ap}
+use lib.ListN.{length}
 use Rattle.answer.specs.Answer.{verdict}
-use Rattle.registers.specs.declared.Register.{Register}
 use Rattle.parts.specs.Step.{stepAt, valueTo}
-use Rattle.parts.specs.Load.{partChecks, placeable, takenRows, seenIn, loadedSlots}
+use Rattle.parts.specs.Load.{partChecks, seenIn, loadedSlots}
 use Rattle.parts.specs.declared.Step.the-variants.{Part}
 use Rattle.parts.proofs.Steps.{step-says}
 use Rattle.parts.proofs.Loading.{agree, Loop, loop-start, loop-end, loop-refused, loop-fault, loop-more, part-placeable}

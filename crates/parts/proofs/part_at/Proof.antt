@@ -1,6 +1,6 @@
 -- `parts::part_at` meets its contract, check by check.
 use native.Mathlib.Omega.{arith}
-use mathlib.Core.Path.{_≡_, sym, _∙_, ap}
+use mathlib.Core.Path.{_∙_}
 use Rattle.parts.specs.Step.{valueSize, partAt}
 use Rattle.parts.proofs.Steps.{part-short, part-flags, part-reserved, part-long, part-whole}
 use borrow.Author.Needs.{needs}

@@ -1,7 +1,6 @@
 -- `parts::put_part` meets its contract: six fields, one behind the other.
 use Prim.Native.Nat.{_≤_}
 use native.Mathlib.Omega.{arith}
-use mathlib.Core.Path.{_≡_, refl, sym, _∙_, ap}
 use lib.ListN.{take}
 use Rattle.registers.specs.Rows.{sizeOf}
 use Rattle.registers.proofs.Rows.{kind-fits, size-most}

@@ -1,7 +1,7 @@
 -- `parts::save` meets its contract: the parts of the rows before `i` are written.
 use Prim.Native.Nat.{ℕ, _+_, _-_, _≤_}
 use native.Mathlib.Omega.{arith}
-use mathlib.Core.Path.{_≡_, refl, sym, _∙_, ap}
+use mathlib.Core.Path.{_∙_, ap}
 use mathlib.Core.Logic.{⊎-elim}
 use lib.ListN.{length}
 use Rattle.registers.specs.Rows.{rowCount, sizeOf}

@@ -1,7 +1,7 @@
 -- `parts::saved_length` meets its contract: the rows before `i` are counted.
 use Prim.Native.Nat.{ℕ, _+_, _-_}
 use native.Mathlib.Omega.{arith}
-use mathlib.Core.Path.{_≡_, refl, sym, _∙_, ap}
+use mathlib.Core.Path.{_∙_, ap}
 use mathlib.Core.Logic.{⊎-elim}
 use Rattle.registers.specs.Rows.{rowCount}
 use Rattle.registers.specs.File.{fileOf}

@@ -1,6 +1,6 @@
 -- `parts::selector_limit` meets its contract.
 use Prim.Native.Nat.{ℕ, _^_}
-use mathlib.Core.Path.{_≡_, sym, _∙_, ap}
+use mathlib.Core.Path.{sym, _∙_, ap}
 use Rattle.parts.proofs.Loading.{width-none}
 use borrow.Author.Needs.{needs}
 use Rattle.parts.proofs.selector_limit.Statement.{statement}

@@ -1,7 +1,7 @@
 -- `parts::step_at` meets its contract.
 use Prim.Native.Nat.{ℕ}
 use native.Mathlib.Omega.{arith}
-use mathlib.Core.Path.{_≡_, sym, _∙_, ap}
+use mathlib.Core.Path.{_∙_, ap}
 use mathlib.Core.List.{List}
 use Rattle.parts.specs.Step.{partStep}
 use Rattle.parts.proofs.Steps.{step-past, step-end, step-part, rest-is}

@@ -1,7 +1,7 @@
 -- `parts::take_part` meets its contract.
 use Prim.Native.Nat.{_<_, _≤_}
 use native.Mathlib.Omega.{arith}
-use mathlib.Core.Path.{_≡_, sym, _∙_}
+use mathlib.Core.Path.{sym, _∙_}
 use lib.ListN.{length}
 use Rattle.answer.specs.Tests.{pick}
 use Rattle.registers.specs.Rows.{rowCount, rowOf}

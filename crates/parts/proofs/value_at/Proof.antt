@@ -1,5 +1,5 @@
 -- `parts::value_at` meets its contract.
-use mathlib.Core.Path.{_≡_, sym, _∙_}
+use mathlib.Core.Path.{sym, _∙_}
 use Rattle.parts.proofs.Steps.{step-says, value-part, value-end, value-refused}
 use borrow.Author.Needs.{needs}
 use Rattle.parts.proofs.value_at.Statement.{statement}

@@ -2,12 +2,11 @@
 use Prim.Native.Nat.{_<_}
 use native.Mathlib.Omega.{arith}
 use lib.Dec.{ltb}
-use mathlib.Core.Path.{_≡_, sym, _∙_, ap}
+use mathlib.Core.Path.{_≡_, sym, _∙_}
 use borrow.Author.Tests.{lt-ltb, le-ltb, not-true, not-false}
-use Rattle.answer.specs.Tests.{isSome}
 use Rattle.answer.specs.Codes.{Unset, NoSpace}
 use Rattle.answer.specs.Checks.{_then_, _when_, _unless_}
-use Rattle.registers.specs.Rows.{rowCount, rowOf, sizeOf}
+use Rattle.registers.specs.Rows.{rowCount, sizeOf}
 use Rattle.registers.specs.File.{current, fileOf}
 use Rattle.registers.specs.Access.{readChecks}
 use Rattle.registers.proofs.File.{set-is}

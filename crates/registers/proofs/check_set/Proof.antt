@@ -1,7 +1,6 @@
 -- `registers::check_set` meets its contract.
-use Prim.Native.Nat.{_<_}
 use native.Mathlib.Omega.{arith}
-use mathlib.Core.Path.{_≡_, sym, _∙_, ap}
+use mathlib.Core.Path.{sym, _∙_}
 use borrow.Author.Tests.{eq-eqb, ne-eqb, not-true, not-false}
 use Rattle.answer.specs.Checks.{_then_, _when_, _unless_}
 use Rattle.registers.specs.Access.{setChecks}

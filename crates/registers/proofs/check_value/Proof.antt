@@ -1,5 +1,5 @@
 -- `registers::check_value` meets its contract.
-use mathlib.Core.Path.{_≡_, sym, _∙_}
+use mathlib.Core.Path.{_∙_}
 use borrow.Author.Tests.{eq-eqb, ne-eqb}
 use Rattle.answer.specs.Checks.{_then_, _unless_, _when_}
 use Rattle.registers.specs.Values.{valueChecks}

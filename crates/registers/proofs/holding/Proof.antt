@@ -1,11 +1,10 @@
 -- `registers::holding` meets its contract.
 use Prim.Native.Nat.{ℕ}
-use mathlib.Core.Path.{_≡_, _∙_, ap}
+use mathlib.Core.Path.{_∙_, ap}
 use mathlib.Core.Bool.{true}
 use mathlib.Core.List.{List}
 use lib.ListN.{replicate}
 use lib.Seq.{sets, take-length}
-use Rattle.registers.specs.declared.Register.{Register}
 use Rattle.registers.proofs.File.{register-made}
 use borrow.Author.Needs.{needs}
 use Rattle.registers.proofs.holding.Statement.{statement}

@@ -1,5 +1,5 @@
 -- `registers::is_power_of_two` meets its contract: up to 256 the powers of two are the divisors of 256.
-use mathlib.Core.Path.{_≡_, sym, _∙_}
+use mathlib.Core.Path.{sym, _∙_}
 use borrow.Author.Tests.{eq-eqb, ne-eqb}
 use Rattle.answer.specs.Tests.{pick}
 use Rattle.registers.proofs.Values.{divides, power-is}

@@ -1,12 +1,11 @@
 -- `registers::offered` meets its contract.
 use native.Mathlib.Omega.{arith}
 use Prim.Native.Nat.{ℕ}
-use mathlib.Core.Path.{_≡_, _∙_, ap}
+use mathlib.Core.Path.{_∙_, ap}
 use mathlib.Core.Bool.{true}
 use mathlib.Core.List.{List}
 use Rattle.wire.specs.Field.{bytesOf}
 use Rattle.registers.specs.Values.{offered}
-use Rattle.registers.specs.declared.Register.{Register}
 use Rattle.registers.proofs.File.{register-made}
 use borrow.Author.Needs.{needs}
 use Rattle.registers.proofs.offered.Statement.{statement}

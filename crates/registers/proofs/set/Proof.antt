@@ -1,6 +1,5 @@
 -- `registers::set` meets its contract.
 use native.Mathlib.Omega.{arith}
-use mathlib.Core.Path.{_≡_, sym, _∙_}
 use Rattle.registers.proofs.Rows.{size-most}
 use Rattle.registers.proofs.Access.{Settable, settable}
 use borrow.Author.Needs.{needs}

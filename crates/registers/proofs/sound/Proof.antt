@@ -1,7 +1,7 @@
 -- `registers::sound` meets its contract: the slots before `i` are sound.
 use Prim.Native.Nat.{_+_, _-_, _≤_}
 use native.Mathlib.Omega.{arith}
-use mathlib.Core.Path.{_≡_, refl, sym, _∙_, ap}
+use mathlib.Core.Path.{_≡_, sym, _∙_, ap}
 use mathlib.Core.Bool.{Bool}
 use lib.ListN.{drop, length}
 use borrow.Author.Tests.{not-true, not-false}

@@ -1,17 +1,15 @@
--- `parts::kept` meets its contract: the first `i` registers are copied.
+-- `parts::replaced` meets its contract: the first `i` registers are copied.
 use Prim.Native.Nat.{_+_, _-_, _≤_}
 use native.Mathlib.Omega.{arith}
-use mathlib.Core.Path.{_≡_, refl, sym, _∙_, ap}
-use mathlib.Core.List.{List}
-use lib.ListN.{length, take, drop, getD, set, length-set, length-drop}
+use mathlib.Core.Path.{_≡_, refl, sym, _∙_}
+use lib.ListN.{length, take, drop, length-set, length-drop}
 use lib.Seq.{take-all, getD-drop}
-use Rattle.registers.specs.declared.Register.{Register}
 use Rattle.registers.proofs.File.{absent}
 use Rattle.answer.proofs.Arrays.{length-mapped}
 use Rattle.parts.proofs.Loading.{copied}
 use borrow.Author.Needs.{needs}
-use Rattle.parts.proofs.kept.Statement.{statement}
-use Rattle.parts.proofs.kept.Tie as tie
+use Rattle.parts.proofs.replaced.Statement.{statement}
+use Rattle.parts.proofs.replaced.Tie as tie
 
 abbrev Inv-loop : tie.InvT-loop
 Inv-loop seen slots₀ i₀ slots i = (i ≤ 14) × (length slots ≡ 14) × (take i slots ≡ take i (drop 1 seen))
@@ -19,11 +17,8 @@ Inv-loop seen slots₀ i₀ slots i = (i ≤ 14) × (length slots ≡ 14) × (ta
 abbrev μ-loop : tie.MeasureT-loop
 μ-loop seen slots₀ i₀ slots i = 14 - i
 
-unset-requires : tie.Need-unset-requires Inv-loop μ-loop
-unset-requires c κs = search needs
-
 loop-holds : tie.Need-loop-holds Inv-loop μ-loop
-loop-holds c = (omega arith, refl, refl)
+loop-holds c = (omega arith, search (needs, length-mapped), refl)
 
 add-r : tie.Need-add-r Inv-loop μ-loop
 add-r c = search needs
@@ -50,7 +45,7 @@ loop-again : tie.Need-loop-again Inv-loop μ-loop
 loop-again c =
     let l = c .before .before in
     let i = l .loop .i in
-    let seen = l .before .before .args .t1 in
+    let seen = l .before .before .args .t2 in
     let long : length seen ≡ 15 = search (needs, length-mapped) in
     let more = copied (l .loop .slots) (drop 1 seen) i absent (omega arith) (omega (arith, length-drop 1 seen)) (l .loop .inv .2) in
     let e : 1 + i ≡ i + 1 = omega arith in (
@@ -62,18 +57,17 @@ loop-again c =
 returns : tie.Need-returns Inv-loop μ-loop
 returns c =
     let l = c .before in
-    let seen = l .before .before .args .t1 in
+    let seen = l .before .before .args .t2 in
     let long : length seen ≡ 15 = search (needs, length-mapped) in
     let e : l .loop .i ≡ 14 = omega arith in
     sym (take-all 14 (l .loop .slots) (omega arith)) ∙ (rw e at (l .loop .inv .2)) ∙ take-all 14 (drop 1 seen) (omega (arith, length-drop 1 seen))
 
-pub kept-spec : {M : Type 1} → statement M
-kept-spec =
+pub replaced-spec : {M : Type 1} → statement M
+replaced-spec =
     tie.close
     (tie.spec
     Inv-loop
     μ-loop
-    unset-requires
     loop-holds
     add-r
     mul-r

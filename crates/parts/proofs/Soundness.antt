@@ -1,0 +1,114 @@
+-- An accepted stream makes a sound register file, and what code writes for it is that file.
+use Prim.Native.Nat.{ℕ, zero, suc, _+_}
+use native.Mathlib.Omega.{arith}
+use mathlib.Core.Path.{_≡_, refl, sym, _∙_, ap}
+use mathlib.Core.Bool.{Bool, true, false}
+use mathlib.Core.List.{List, [], _∷_}
+use mathlib.Core.Option.{some}
+use lib.ListN.{length, set, length-set}
+use Rattle.answer.specs.Tests.{pick}
+use Rattle.answer.specs.Answer.{Answer, done, refused, settle, _onward_}
+use Rattle.answer.specs.declared.Verdict.{Verdict}
+use Rattle.answer.specs.declared.Verdict.the-variants.{Pass, Fail}
+use Rattle.answer.proofs.Tests.{and-true, and-made, pick-true}
+use Rattle.answer.proofs.Checks.{then-pass, unless-pass, when-pass, at-pass}
+use Rattle.registers.specs.Rows.{rowCount, rowOf, listed}
+use Rattle.registers.specs.Values.{valueChecks}
+use Rattle.registers.specs.File.{File, keptCount, current, soundFrom, soundFile, fileFrom, fileOf, slotsOf}
+use Rattle.registers.specs.declared.Registers.{Registers}
+use Rattle.registers.proofs.File.{sound-cons, sound-sized, file-written}
+use Rattle.registers.proofs.Soundness.{sound-set}
+use Rattle.parts.specs.Step.{stepAt}
+use Rattle.parts.specs.Load.{Seen, listedChecks, partChecks, taken, finish, onStep, loadFrom, load}
+use Rattle.parts.specs.declared.Step.{Step}
+use Rattle.parts.specs.declared.Step.the-variants.{Part, End, Refused}
+
+-- ---- answers that are results
+
+never-done : {X R : Type 0} {code place : ℕ} {r : R} → refused code place ≡ done r → X
+never-done e = absurd (let z : _≡_ {A = ℕ} 0 1 = cc in omega arith)
+
+same-done : {R : Type 0} {r q : R} → done r ≡ done q → r ≡ q
+same-done e = cc
+
+settled : {R : Type 0} (v : Verdict) (r q : R) → settle v r ≡ done q → (v ≡ Pass) × (r ≡ q)
+unfolding settle
+settled Pass r q e = (refl, same-done e)
+settled (Fail code place) r q e = never-done e
+
+onward-done : {A B : Type 0} (a : Answer A) (f : A → Answer B) (b : B) → (a onward f) ≡ done b → (r : A) × (a ≡ done r) × (f r ≡ done b)
+unfolding _onward_
+onward-done (done r) f b e = (r, refl, e)
+onward-done (refused code place) f b e = never-done e
+
+-- ---- what is seen stays sound
+
+-- each value seen passes its row's checks
+pub record Good (seen : Seen) : Type 0 where
+  pub long : length seen ≡ rowCount
+  pub sound : soundFrom 0 seen ≡ true
+
+-- a value that passes passes as the first one, too
+once : (i : ℕ) (twice : Bool) (v : List ℕ) → valueChecks i twice v ≡ Pass → valueChecks i false v ≡ Pass
+unfolding valueChecks
+once i twice v h = ap (λ (t : Bool). valueChecks i t v) (sym (when-pass _ _ (then-pass _ _ (then-pass _ _ h .1) .0))) ∙ h
+
+module _ (seen : Seen) (kind flags selector : ℕ) (v : List ℕ) (h : partChecks seen kind flags selector v ≡ Pass) (good : Good seen) where
+  value-good : listed kind ≡ true → valueChecks (rowOf kind selector) false v ≡ Pass
+  unfolding partChecks listedChecks
+  value-good l =
+      let a = then-pass _ _ (sym (pick-true _ _ _ l) ∙ then-pass _ _ h .1) in
+      once _ _ v (then-pass _ _ (then-pass _ _ (a .1) .1) .1)
+
+  taken-good : Good (taken seen kind selector v)
+  unfolding taken pick
+  taken-good = go (listed kind) refl
+    where
+      go : (t : Bool) → listed kind ≡ t → Good (pick t (set seen (rowOf kind selector) (some v)) seen)
+      go true e =
+          let i : 0 + rowOf kind selector ≡ rowOf kind selector = omega arith in
+          record {
+            long = length-set seen (rowOf kind selector) (some v) ∙ good .long;
+            sound = sound-set 0 seen (rowOf kind selector) v (good .sound) (rw i (value-good e));
+          }
+      go false e = good
+
+-- ---- the whole stream
+
+unfoldable Sound : File → Type 0
+Sound file = (length file ≡ keptCount) × (soundFile file ≡ true)
+
+finish-sound : (seen : Seen) (p : ℕ) (file : File) → finish seen p ≡ done file → Good seen → Sound file
+unfolding finish soundFile current Sound
+finish-sound [] p file e good = absurd (omega (arith, good .long))
+finish-sound (x ∷ rest) p file e good =
+    let d = settled _ _ _ e in
+    rw (← d .1)
+    (omega (arith, good .long), and-made _ _ (unless-pass _ _ (at-pass _ p (d .0))) (and-true _ _ (sym (sound-cons 0 x rest) ∙ good .sound) .1))
+
+from-sound : (fuel : ℕ) (s : List ℕ) (p : ℕ) (seen : Seen) (file : File) → loadFrom fuel s p seen ≡ done file → Good seen → Sound file
+unfolding loadFrom onStep
+from-sound zero s p seen file e good = never-done e
+from-sound (suc fuel) s p seen file e good = step (stepAt s p) e (λ p′ seen′. from-sound fuel s p′ seen′ file)
+  where
+    step : (x : Step) → onStep (loadFrom fuel s) s p seen x ≡ done file
+        → ((p′ : ℕ) (seen′ : Seen) → loadFrom fuel s p′ seen′ ≡ done file → Good seen′ → Sound file) → Sound file
+    step End e more = finish-sound seen p file e good
+    step (Refused code place) e more = never-done e
+    step (Part kind flags selector next) e more =
+        let o = onward-done _ _ _ e in
+        let d = settled _ _ _ (o .1) in
+        more next (o .0) (o .2) (rw (← d .1) (taken-good seen kind flags selector _ (at-pass _ p (d .0)) good))
+
+-- What an accepted stream makes is a sound register file.
+pub load-sound : (running : Bool) (s : List ℕ) (file : File) → load running s ≡ done file → (length file ≡ keptCount) × (soundFile file ≡ true)
+unfolding load Sound soundFrom
+load-sound running s file e =
+    let o = onward-done _ _ _ e in
+    let d = settled _ _ _ (o .1) in
+    from-sound (suc (length s)) s 0 (o .0) file (o .2) (rw (← d .1) record { long = refl; sound = refl })
+
+-- and the registers that `load` then gives are that file
+pub load-file : (running : Bool) (s : List ℕ) (file : File) → load running s ≡ done file → (r : Registers) → r .slots ≡ slotsOf file → fileOf r ≡ file
+unfolding fileOf soundFile
+load-file running s file e r is = ap (fileFrom 1) is ∙ file-written 1 file (sound-sized 1 file (and-true _ _ (load-sound running s file e .1) .1))
