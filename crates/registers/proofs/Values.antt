@@ -4,17 +4,26 @@ use native.Mathlib.Nat.{mod-eq-of-lt}
 use native.Mathlib.Omega.{arith}
 use mathlib.Core.Path.{_≡_, refl, sym, _∙_}
 use mathlib.Core.Bool.{Bool, true, false, false≢true}
-use mathlib.Core.List.{List}
+use mathlib.Core.List.{List, []}
 use lib.ListN.{length}
 use lib.Dec.{eqb, ltb}
 use borrow.Author.Tests.{eq-eqb, ne-eqb, leb-true, le-leb, eqb-true, ltb-true, ltb-false}
 use Rattle.answer.specs.Tests.{_and_, _or_, pick}
-use Rattle.answer.specs.declared.Verdict.the-variants.{Pass}
+use Rattle.answer.specs.Codes.{Value}
+use Rattle.answer.specs.Checks.{_then_, _unless_}
+use Rattle.answer.specs.declared.Verdict.the-variants.{Pass, Fail}
 use Rattle.answer.proofs.Tests.{and-true, is-false, below, below-at}
 use Rattle.answer.proofs.Checks.{then-pass, unless-pass}
 use Rattle.wire.specs.Field.{field}
-use Rattle.registers.specs.Rows.{sizeOf}
+use Rattle.registers.specs.Rows.{statusRow, sizeOf}
 use Rattle.registers.specs.Values.{powerOfTwo, validQueue, valueChecks}
+
+-- ---- the order of the checks
+
+-- a second value of the wrong length is refused for its length
+pub length-first : valueChecks statusRow true [] ≡ Fail Value 0
+unfolding valueChecks sizeOf _then_ _unless_
+length-first = refl
 
 -- ---- powers of two
 
