@@ -3,11 +3,14 @@ use Prim.Native.Nat.{ℕ, suc, _+_, _-_, _*_, _≤_, _<_}
 use native.Mathlib.Numerals.{add-one}
 use native.Mathlib.Omega.{arith}
 use mathlib.Core.Path.{_≡_, refl, sym, _∙_, ap}
-use mathlib.Core.Bool.{true, false}
+use mathlib.Core.Bool.{Bool, true, false}
 use mathlib.Core.List.{List, [], _++_}
 use mathlib.Core.Option.{none}
 use lib.ListN.{length, take, length-append}
 use lib.Seq.{sets, length-sets, length-take-le}
+use borrow.Author.Tests.{ltb-false}
+use Rattle.answer.specs.declared.Verdict.the-variants.{Pass}
+use Rattle.answer.proofs.Checks.{then-pass, when-pass}
 use Rattle.wire.specs.Field.{bytesOf}
 use Rattle.wire.proofs.Laws.{length-bytes, sets-then}
 use Rattle.registers.specs.Rows.{rowCount, kindOf, selectorOf, sizeOf}
@@ -17,7 +20,7 @@ use Rattle.registers.proofs.Rows.{size-most}
 use Rattle.registers.proofs.File.{value-set, value-unset}
 use Rattle.parts.specs.Step.{headerSize}
 use Rattle.parts.specs.Load.{flagsOf}
-use Rattle.parts.specs.Save.{encoded, partOf, savedFrom, saved}
+use Rattle.parts.specs.Save.{encoded, partOf, savedFrom, saved, saveChecks}
 
 -- ---- one part
 
@@ -161,3 +164,10 @@ module _ (file : File) (buf₀ buf : List ℕ) (p i : ℕ) (h : Left file buf₀
                 ∙ sym (sets-then buf part _ p p′ (omega (arith, part-long file i lt r is whole e)))
                 ∙ ap (λ (l : List ℕ). sets l p′ (rest file (i + 1))) (sym b);
           }
+
+-- ---- the checks of saving
+
+-- they pass where the buffer has the room
+pub save-room : (running : Bool) (file : File) (room : ℕ) → saveChecks running file room ≡ Pass → length (saved file) ≤ room
+unfolding saveChecks
+save-room running file room h = ltb-false _ _ (when-pass _ _ (then-pass _ _ h .1))

@@ -104,6 +104,11 @@ pub struct Loaded {
     pub registers: Registers,
 }
 
+const STREAM_LIMIT: usize = 65536;
+
+// Types from here on are refused, and never skipped.
+const RESERVED_KINDS: u64 = 0x600;
+
 // Offered features are flagged optional, and no other listed type.
 fn flags_of(kind: u64) -> u8
     ensures { λ r. ⌜ r ≡ flagsOf kind ⌝ }
@@ -147,7 +152,7 @@ fn check_listed(seen: [Register; 15], kind: u64, flags: u8, selector: u64, v: &[
 fn check_part(seen: [Register; 15], kind: u64, flags: u8, selector: u64, v: &[u8]) -> Verdict
     ensures { λ r. ⌜ r ≡ partChecks (seenIn seen) kind flags selector (now (v .entry)) ⌝ }
 {
-    if 0x600 <= kind {
+    if RESERVED_KINDS <= kind {
         return Verdict::Fail(answer::UNKNOWN_PART, 0);
     }
     if registers::is_listed(kind) {
@@ -260,7 +265,7 @@ pub fn load(registers: Registers, running: bool, s: &[u8]) -> Loaded
             registers,
         };
     }
-    if 65536 < s.len() {
+    if STREAM_LIMIT < s.len() {
         return Loaded {
             verdict: Verdict::Fail(answer::TOO_LONG, 0),
             registers,
