@@ -14,18 +14,19 @@ use Rattle.answer.specs.Tests.{_and_, pick}
 use Rattle.answer.specs.Codes.{Missing}
 use Rattle.answer.specs.Checks.{_then_, _when_, _unless_, _at_}
 use Rattle.answer.specs.Limits.{transferLimit, lengthCheck}
-use Rattle.answer.specs.Answer.{Answer, done, refused, settle, _onward_, verdict}
+use Rattle.answer.specs.Answer.{Answer, done, refused, settle, _onward_}
 use Rattle.answer.specs.declared.Verdict.the-variants.{Pass, Fail}
 use Rattle.answer.proofs.Tests.{and-true, and-made, pick-true}
 use Rattle.answer.proofs.Checks.{then-pass, unless-pass}
 use Rattle.registers.specs.Rows.{CommonField, QueueConfig, rowCount, statusRow, rowOf, sizeOf, selects, listed, selectorWidth}
 use Rattle.registers.specs.File.{File, valueIn, fileFrom, registerOf, slotsOf}
 use Rattle.registers.specs.declared.Register.{Register}
+use Rattle.registers.specs.declared.Registers.{Registers}
 use Rattle.registers.proofs.Rows.{selected, size-most}
 use Rattle.registers.proofs.Values.{value-size}
 use Rattle.registers.proofs.File.{absent, set-at, file-set}
 use Rattle.parts.specs.Step.{stepAt, valueTo}
-use Rattle.parts.specs.Load.{Seen, nothingSeen, listedChecks, partChecks, taken, finish, onStep, loadFrom, load, seenIn, placeable, takenRows, loadedSlots}
+use Rattle.parts.specs.Load.{Seen, listedChecks, partChecks, taken, finish, onStep, loadFrom, load, seenIn, placeable, takenRows, loadedOf, fromStart}
 use Rattle.parts.specs.declared.Step.{Step}
 use Rattle.parts.specs.declared.Step.the-variants.{Part, End, Refused}
 use Rattle.parts.proofs.Steps.{step-says}
@@ -112,9 +113,9 @@ pub copied : (to from : List Register) (i : ℕ) (d : Register) → i < length t
     → take (i + 1) (set to i (getD from i d)) ≡ take (i + 1) from
 copied to from i d a b e = rw add-one (take-suc-set to i (getD from i d) a ∙ ap (λ (l : List Register). l ++ (getD from i d ∷ [])) e ∙ sym (take-suc from i d b))
 
--- two answers that agree
-pub agree : (slots : List Register) (x y : Answer File) → x ≡ y → (verdict y ≡ verdict x) × (loadedSlots y slots ≡ loadedSlots x slots)
-agree slots x y e = (ap verdict (sym e), ap (λ (a : Answer File). loadedSlots a slots) (sym e))
+-- what the code gives for answers that agree
+pub agree : (registers : Registers) (x y : Answer File) → x ≡ y → loadedOf y registers ≡ loadedOf x registers
+agree registers x y e = ap (λ (a : Answer File). loadedOf a registers) (sym e)
 
 -- ---- the end of the stream
 
@@ -133,16 +134,12 @@ module _ (rows : List Register) (p : ℕ) where
 
 -- ---- the loop over the parts
 
--- what loading the parts of a stream comes to
-abbrev pub parts : List ℕ → Answer File
-parts s = loadFrom (suc (length s)) s 0 nothingSeen
-
 -- at the head of the loop: the parts from `p` on decide, over what is seen
 pub record Loop (s : List ℕ) (p : ℕ) (rows : List Register) : Type 0 where
   pub fuel : ℕ
   pub enough : length s < p + fuel
   pub inside : p ≤ length s
-  pub rest : parts s ≡ loadFrom fuel s p (seenIn rows)
+  pub rest : fromStart s ≡ loadFrom fuel s p (seenIn rows)
   pub canonical : Canonical rows
 
 pub loop-start : (s : List ℕ) (r : Register) → r ≡ registerOf none → Loop s 0 (replicate rowCount r)
@@ -151,22 +148,22 @@ loop-start s r e = rw e record { fuel = suc (length s); enough = omega arith; in
 
 module _ (s : List ℕ) (p : ℕ) (rows : List Register) (l : Loop s p rows) where
   -- there is fuel for one part more
-  opened : (x : Step) → x ≡ stepAt s p → parts s ≡ onStep (loadFrom (l .fuel - 1) s) s p (seenIn rows) x
+  opened : (x : Step) → x ≡ stepAt s p → fromStart s ≡ onStep (loadFrom (l .fuel - 1) s) s p (seenIn rows) x
   unfolding loadFrom
   opened x e =
       let one : l .fuel ≡ suc (l .fuel - 1) = omega (arith, l .enough, l .inside) in
       l .rest ∙ ap (λ (fuel : ℕ). loadFrom fuel s p (seenIn rows)) one ∙ rw e
 
-  pub loop-end : End ≡ stepAt s p → parts s ≡ finish (seenIn rows) p
+  pub loop-end : End ≡ stepAt s p → fromStart s ≡ finish (seenIn rows) p
   unfolding onStep
   loop-end e = opened End e
 
-  pub loop-refused : (code place : ℕ) → Refused code place ≡ stepAt s p → parts s ≡ refused code place
+  pub loop-refused : (code place : ℕ) → Refused code place ≡ stepAt s p → fromStart s ≡ refused code place
   unfolding onStep
   loop-refused code place e = opened (Refused code place) e
 
   module _ (kind flags selector next : ℕ) (e : Part kind flags selector next ≡ stepAt s p) where
-    pub loop-fault : (code place : ℕ) → Fail code place ≡ partChecks (seenIn rows) kind flags selector (valueTo s p next) → parts s ≡ refused code p
+    pub loop-fault : (code place : ℕ) → Fail code place ≡ partChecks (seenIn rows) kind flags selector (valueTo s p next) → fromStart s ≡ refused code p
     unfolding onStep settle _onward_ _at_
     loop-fault code place f = opened (Part kind flags selector next) e ∙ rw (← f)
 
@@ -184,6 +181,6 @@ module _ (s : List ℕ) (p : ℕ) (rows : List Register) (l : Loop s p rows) whe
 
 -- ---- the checks before the first part
 
-pub load-parts : (running : Bool) (s : List ℕ) → running ≡ false → length s ≤ transferLimit → load running s ≡ parts s
+pub load-parts : (running : Bool) (s : List ℕ) → running ≡ false → length s ≤ transferLimit → load running s ≡ fromStart s
 unfolding load lengthCheck settle _onward_ _then_ _when_
 load-parts running s e h = rw (e, le-ltb _ _ h)

@@ -7,19 +7,19 @@ use mathlib.Core.List.{List, [], _∷_}
 use mathlib.Core.Option.{some}
 use lib.ListN.{length, set, length-set}
 use Rattle.answer.specs.Tests.{pick}
-use Rattle.answer.specs.Answer.{Answer, done, refused, settle, _onward_, resultOr}
+use Rattle.answer.specs.Answer.{Answer, done, refused, settle, _onward_, verdict, resultOr}
 use Rattle.answer.specs.declared.Verdict.{Verdict}
 use Rattle.answer.specs.declared.Verdict.the-variants.{Pass, Fail}
 use Rattle.answer.proofs.Tests.{and-true, and-made, pick-true}
 use Rattle.answer.proofs.Checks.{then-pass, unless-pass, when-pass, at-pass}
 use Rattle.registers.specs.Rows.{rowCount, rowOf, listed}
 use Rattle.registers.specs.Values.{valueChecks}
-use Rattle.registers.specs.File.{File, keptCount, current, soundFrom, soundFile, fileFrom, fileOf}
+use Rattle.registers.specs.File.{File, keptCount, current, soundFrom, soundFile, fileOf}
 use Rattle.registers.specs.declared.Registers.{Registers}
 use Rattle.registers.proofs.File.{sound-cons, sound-sized, file-written}
 use Rattle.registers.proofs.Soundness.{sound-set}
 use Rattle.parts.specs.Step.{stepAt}
-use Rattle.parts.specs.Load.{Seen, listedChecks, partChecks, taken, finish, onStep, loadFrom, load, loadedSlots}
+use Rattle.parts.specs.Load.{Seen, listedChecks, partChecks, taken, finish, onStep, loadFrom, load, loadedOf}
 use Rattle.parts.specs.declared.Step.{Step}
 use Rattle.parts.specs.declared.Step.the-variants.{Part, End, Refused}
 
@@ -108,12 +108,18 @@ load-sound running s file e =
     let d = settled _ _ _ (o .1) in
     from-sound (suc (length s)) s 0 (o .0) file (o .2) (rw (← d .1) record { long = refl; sound = refl })
 
--- The registers that `load` gives are that file, or, where it is refused, the one they were.
-pub loaded-file : (running : Bool) (s : List ℕ) (old new : Registers) → new .slots ≡ loadedSlots (load running s) (old .slots)
-    → fileOf new ≡ resultOr (fileOf old) (load running s)
-unfolding fileOf soundFile loadedSlots resultOr
-loaded-file running s old new is = go (load running s) refl (ap (fileFrom 1) is)
+-- ---- what `load` gives
+
+pub loaded-verdict : (a : Answer File) (registers : Registers) → loadedOf a registers .verdict ≡ verdict a
+unfolding loadedOf verdict
+loaded-verdict (done file) registers = refl
+loaded-verdict (refused code place) registers = refl
+
+-- the registers are the file that the stream makes, or, where it is refused, the one they were
+pub loaded-file : (running : Bool) (s : List ℕ) (registers : Registers) → fileOf (loadedOf (load running s) registers .registers) ≡ resultOr (fileOf registers) (load running s)
+unfolding fileOf soundFile loadedOf resultOr
+loaded-file running s registers = go (load running s) refl
   where
-    go : (x : Answer File) → load running s ≡ x → fileFrom 1 (new .slots) ≡ fileFrom 1 (loadedSlots x (old .slots)) → fileFrom 1 (new .slots) ≡ resultOr (fileFrom 1 (old .slots)) x
-    go (done file) e h = h ∙ file-written 1 file (sound-sized 1 file (and-true _ _ (load-sound running s file e .1) .1))
-    go (refused code place) e h = h
+    go : (x : Answer File) → load running s ≡ x → fileOf (loadedOf x registers .registers) ≡ resultOr (fileOf registers) x
+    go (done file) e = file-written 1 file (sound-sized 1 file (and-true _ _ (load-sound running s file e .1) .1))
+    go (refused code place) e = refl

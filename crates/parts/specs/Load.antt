@@ -11,11 +11,14 @@ use Rattle.answer.specs.Checks.{_then_, _when_, _unless_, _at_}
 use Rattle.answer.specs.Limits.{lengthCheck}
 use Rattle.answer.specs.Answer.{Answer, done, refused, settle, _onward_}
 use Rattle.answer.specs.declared.Verdict.{Verdict}
+use Rattle.answer.specs.declared.Verdict.the-variants.{Pass, Fail}
 use Rattle.registers.specs.Rows.{OfferedFeatures, rowCount, statusRow, rowOf, selects, listed, selectorWidth}
 use Rattle.registers.specs.Values.{valueChecks}
 use Rattle.registers.specs.File.{File, fileFrom, registerOf, slotsOf}
 use Rattle.registers.specs.declared.Register.{Register}
+use Rattle.registers.specs.declared.Registers.{Registers}
 use Rattle.parts.specs.Step.{stepAt, valueTo}
+use Rattle.parts.specs.declared.Loaded.{Loaded}
 use Rattle.parts.specs.declared.Step.{Step}
 use Rattle.parts.specs.declared.Step.the-variants.{Part, End, Refused}
 
@@ -85,7 +88,11 @@ placeable kind selector v = pick (listed kind) (selects kind selector and leb (l
 unfoldable pub takenRows : List Register → ℕ → ℕ → List ℕ → List Register
 takenRows rows kind selector v = pick (listed kind) (set rows (rowOf kind selector) (registerOf (some v))) rows
 
--- the code's registers after loading: those given where it is refused, else the file's
-unfoldable pub loadedSlots : Answer File → List Register → List Register
-loadedSlots (done file) slots = slotsOf file
-loadedSlots (refused code place) slots = slots
+-- what the code gives for an answer: its verdict, and the registers, those given where it is refused, else those of the file
+unfoldable pub loadedOf : Answer File → Registers → Loaded
+loadedOf (done file) registers = record { verdict = Pass; registers = record { slots = slotsOf file } }
+loadedOf (refused code place) registers = record { verdict = Fail code place; registers = registers }
+
+-- what the parts of a stream come to, from its start
+abbrev pub fromStart : List ℕ → Answer File
+fromStart s = loadFrom (suc (length s)) s 0 nothingSeen

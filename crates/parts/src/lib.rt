@@ -4,14 +4,13 @@ use registers::Register;
 use registers::Registers;
 ghost use mathlib.Core.Path.{_≡_};
 ghost use mathlib.Core.Bool.{true};
-ghost use Prim.Native.Nat.{suc, _+_, _^_, _≤_, _<_};
+ghost use Prim.Native.Nat.{_+_, _^_, _≤_, _<_};
 ghost use lib.ListN.{length, take, drop};
 ghost use lib.Seq.{sets};
-ghost use Rattle.answer.specs.Answer.{verdict as verdictOf};
 ghost use Rattle.registers.specs.Rows.{rowCount, sizeOf, selectorWidth};
 ghost use Rattle.registers.specs.File.{fileOf, slotsOf};
 ghost use Rattle.parts.specs.Step.{headerSize, partStep, stepAt, valueTo, valueAt};
-ghost use Rattle.parts.specs.Load.{flagsOf, listedChecks, partChecks, finish as finished, loadFrom, load as loading, seenIn, nothingSeen, placeable, takenRows, loadedSlots};
+ghost use Rattle.parts.specs.Load.{flagsOf, listedChecks, partChecks, finish as finished, load as loading, seenIn, placeable, takenRows, loadedOf, fromStart};
 ghost use Rattle.parts.specs.Save.{encoded, saved, saveChecks};
 
 // What stands at a place of a stream: a part, whose value reaches from 16 bytes behind that place to `next`; the end; or a refusal.
@@ -196,7 +195,7 @@ fn replaced(registers: Registers, seen: [Register; 15]) -> Registers
 // The end of the stream, at place `at`.
 fn finish(registers: Registers, seen: [Register; 15], at: usize) -> Loaded
     requires { ⌜ seen ≡ slotsOf (seenIn seen) ⌝ }
-    ensures { λ r. ⌜ (r .verdict ≡ verdictOf (finished (seenIn seen) at)) × (r .registers .slots ≡ loadedSlots (finished (seenIn seen) at) (registers .slots)) ⌝ }
+    ensures { λ r. ⌜ r ≡ loadedOf (finished (seenIn seen) at) registers ⌝ }
 {
     let status = seen[registers::STATUS_ROW];
     if status.set {
@@ -213,7 +212,7 @@ fn finish(registers: Registers, seen: [Register; 15], at: usize) -> Loaded
 
 // Each part in order. Nothing of `registers` changes before the last check has passed.
 fn load_parts(registers: Registers, s: &[u8]) -> Loaded
-    ensures { λ r. ⌜ (r .verdict ≡ verdictOf (loadFrom (suc (length (now (s .entry)))) (now (s .entry)) 0 nothingSeen)) × (r .registers .slots ≡ loadedSlots (loadFrom (suc (length (now (s .entry)))) (now (s .entry)) 0 nothingSeen) (registers .slots)) ⌝ }
+    ensures { λ r. ⌜ r ≡ loadedOf (fromStart (now (s .entry))) registers ⌝ }
 {
     let none = registers::unset();
     let mut seen = [none; 15];
@@ -257,7 +256,7 @@ fn load_parts(registers: Registers, s: &[u8]) -> Loaded
 }
 
 pub fn load(registers: Registers, running: bool, s: &[u8]) -> Loaded
-    ensures { λ r. ⌜ (r .verdict ≡ verdictOf (loading running (now (s .entry)))) × (r .registers .slots ≡ loadedSlots (loading running (now (s .entry))) (registers .slots)) ⌝ }
+    ensures { λ r. ⌜ r ≡ loadedOf (loading running (now (s .entry))) registers ⌝ }
 {
     if running {
         return Loaded {

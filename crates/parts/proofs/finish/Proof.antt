@@ -1,7 +1,9 @@
 -- `parts::finish` meets its contract.
-use mathlib.Core.Path.{refl, _∙_}
-use Rattle.answer.specs.Answer.{verdict}
-use Rattle.parts.specs.Load.{loadedSlots}
+use mathlib.Core.Path.{_∙_, ap}
+use mathlib.Core.List.{List}
+use Rattle.answer.specs.declared.Verdict.the-variants.{Pass}
+use Rattle.registers.specs.declared.Register.{Register}
+use Rattle.parts.specs.Load.{loadedOf}
 use Rattle.parts.proofs.Loading.{finish-done, finish-missing, kept-slots}
 use borrow.Author.Needs.{needs}
 use Rattle.parts.proofs.finish.Statement.{statement}
@@ -14,16 +16,16 @@ replaced-requires : tie.Need-replaced-requires
 replaced-requires c κs = search needs
 
 returns : tie.Need-returns
-unfolding verdict loadedSlots
+unfolding loadedOf
 returns c =
     let s = c .before .before .before in
-    rw (finish-done (s .args .t2) (s .args .at) (c .before .if1 .taken)) (refl, c .replaced .ensures ∙ kept-slots (s .args .t2) (s .args .at) (s .pre))
+    rw (finish-done (s .args .t2) (s .args .at) (c .before .if1 .taken)) (ap (λ (l : List Register). record { verdict = Pass; registers = record { slots = l } }) (c .replaced .ensures ∙ kept-slots (s .args .t2) (s .args .at) (s .pre)))
 
 returns-2 : tie.Need-returns-2
-unfolding verdict loadedSlots
+unfolding loadedOf
 returns-2 c =
     let s = c .before .before in
-    rw (finish-missing (s .args .t2) (s .args .at) (c .if1 .left)) (refl, refl)
+    rw (finish-missing (s .args .t2) (s .args .at) (c .if1 .left))
 
 pub finish-spec : {M : Type 1} → statement M
 finish-spec = tie.close (tie.spec array-copy-out-status replaced-requires returns returns-2)

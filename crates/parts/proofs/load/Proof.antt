@@ -1,30 +1,28 @@
 -- `parts::load` meets its contract.
-use mathlib.Core.Path.{refl, _∙_}
+use mathlib.Core.Path.{_∙_}
 use borrow.Author.Tests.{lt-ltb}
 use Rattle.answer.specs.Checks.{_then_, _when_}
 use Rattle.answer.specs.Limits.{lengthCheck}
-use Rattle.answer.specs.Answer.{settle, _onward_, verdict}
-use Rattle.parts.specs.Load.{load, loadedSlots}
+use Rattle.answer.specs.Answer.{settle, _onward_}
+use Rattle.parts.specs.Load.{load, loadedOf}
 use Rattle.parts.proofs.Loading.{agree, load-parts}
 use borrow.Author.Needs.{needs}
 use Rattle.parts.proofs.load.Statement.{statement}
 use Rattle.parts.proofs.load.Tie as tie
 
 returns : tie.Need-returns
-unfolding load settle _onward_ verdict loadedSlots _then_ _when_
-returns c = rw (c .if1 .taken) (refl, refl)
+unfolding load settle _onward_ loadedOf _then_ _when_
+returns c = rw (c .if1 .taken)
 
 returns-2 : tie.Need-returns-2
-unfolding load lengthCheck settle _onward_ verdict loadedSlots _then_ _when_
-returns-2 c = rw (c .before .if1 .left, lt-ltb _ _ (c .if2 .taken)) (refl, refl)
+unfolding load lengthCheck settle _onward_ loadedOf _then_ _when_
+returns-2 c = rw (c .before .if1 .left, lt-ltb _ _ (c .if2 .taken))
 
 load-parts-requires : tie.Need-load-parts-requires
 load-parts-requires c κs = search needs
 
 returns-3 : tie.Need-returns-3
-returns-3 c =
-    let a = agree _ _ _ (load-parts _ _ (c .before .before .if1 .left) (c .before .if2 .left)) in
-    (c .load-parts .ensures .0 ∙ a .0, c .load-parts .ensures .1 ∙ a .1)
+returns-3 c = c .load-parts .ensures ∙ agree _ _ _ (load-parts _ _ (c .before .before .if1 .left) (c .before .if2 .left))
 
 pub load-spec : {M : Type 1} → statement M
 load-spec = tie.close (tie.spec returns returns-2 load-parts-requires returns-3)

@@ -3,12 +3,11 @@ use Prim.Native.Nat.{ℕ, _-_}
 use native.Mathlib.Omega.{arith}
 use mathlib.Core.Path.{_≡_, sym, _∙_, ap}
 use lib.ListN.{length}
-use Rattle.answer.specs.Answer.{verdict}
 use Rattle.parts.specs.Step.{stepAt, valueTo}
-use Rattle.parts.specs.Load.{partChecks, seenIn, loadedSlots}
+use Rattle.parts.specs.Load.{partChecks, seenIn, loadedOf}
 use Rattle.parts.specs.declared.Step.the-variants.{Part}
 use Rattle.parts.proofs.Steps.{step-says}
-use Rattle.parts.proofs.Loading.{agree, Loop, loop-start, loop-end, loop-refused, loop-fault, loop-more, part-placeable}
+use Rattle.parts.proofs.Loading.{Loop, agree, loop-start, loop-end, loop-refused, loop-fault, loop-more, part-placeable}
 use borrow.Author.Needs.{needs}
 use Rattle.parts.proofs.load_parts.Statement.{statement}
 use Rattle.parts.proofs.load_parts.Tie as tie
@@ -37,14 +36,13 @@ finish-requires c κs = c .before .before .before .loop .inv .canonical
 returns : tie.Need-returns Inv-loop μ-loop
 returns c =
     let l = c .before .before .before .before in
-    let a = agree (l .before .before .before .args .registers .slots) _ _ (loop-end _ _ _ (l .loop .inv) (sym (c .before .enum-told .given .1) ∙ c .before .before .before .step-at .ensures)) in
-    (c .finish .ensures .0 ∙ a .0, c .finish .ensures .1 ∙ a .1)
+    c .finish .ensures ∙ agree _ _ _ (loop-end _ _ _ (l .loop .inv) (sym (c .before .enum-told .given .1) ∙ c .before .before .before .step-at .ensures))
 
 enum-known-step : tie.Need-enum-known-step Inv-loop μ-loop
 enum-known-step c = search needs
 
 returns-2 : tie.Need-returns-2 Inv-loop μ-loop
-unfolding verdict loadedSlots
+unfolding loadedOf
 returns-2 c =
     let l = c .before .before .before .before in
     agree _ _ _ (loop-refused _ _ _ (l .loop .inv) _ _ (sym (c .before .step .given .1) ∙ c .before .before .before .step-at .ensures))
@@ -93,7 +91,7 @@ enum-known-verdict : tie.Need-enum-known-verdict Inv-loop μ-loop
 enum-known-verdict c = search needs
 
 returns-3 : tie.Need-returns-3 Inv-loop μ-loop
-unfolding verdict loadedSlots
+unfolding loadedOf
 returns-3 c =
     let m = c .before .before .before in
     let p = m .before .before .before in
