@@ -1,19 +1,19 @@
 -- What loading and saving parts have to answer and leave, by what is known where they return.
-use Prim.Native.Nat.{ℕ, _≤_}
+use Prim.Native.Nat.{ℕ}
 use mathlib.Core.Path.{_≡_, refl, sym, _∙_, ap}
-use mathlib.Core.Bool.{Bool, true}
+use mathlib.Core.Bool.{true}
 use mathlib.Core.List.{List}
 use lib.ListN.{length}
 use lib.Seq.{sets}
-use borrow.Author.Tests.{ltb-false}
 use Rattle.answer.specs.Answer.{Answer, done, refused, verdict, resultOr}
 use Rattle.answer.specs.declared.Verdict.the-variants.{Pass, Fail}
-use Rattle.answer.proofs.Checks.{never, then-pass, when-pass}
+use Rattle.answer.proofs.Checks.{never}
 use Rattle.memory.specs.Memory.{Memory, edited}
 use Rattle.registers.specs.File.{File, fileOf, slotsOf}
-use Rattle.registers.specs.declared.Register.{Register}
 use Rattle.registers.specs.declared.Registers.{Registers}
-use Rattle.parts.specs.Load.{load, loadedSlots}
+use Rattle.parts.specs.Load.{load, loadedOf}
+use Rattle.parts.specs.declared.Loaded.{Loaded}
+use Rattle.parts.proofs.Soundness.{loaded-verdict}
 use Rattle.parts.specs.Save.{saved, saveChecks}
 use Rattle.emulator.specs.Machine.{sound, machineOf, usable, emulatorOf, withRegisters}
 use Rattle.emulator.specs.Effect.{value, filled}
@@ -23,23 +23,27 @@ use Rattle.emulator.specs.declared.State.{State}
 use Rattle.emulator.proofs.Meets.{refused-by, accepted}
 
 -- an accepted stream's registers are those of its file
-loaded : (a : Answer File) (old : List Register) (file : File) → verdict a ≡ Pass → loadedSlots a old ≡ slotsOf (resultOr file a)
-unfolding verdict loadedSlots resultOr
+loaded : (a : Answer File) (old : Registers) (file : File) → verdict a ≡ Pass → loadedOf a old .registers ≡ record { slots = slotsOf (resultOr file a) }
+unfolding verdict loadedOf resultOr
 loaded (done f) old file e = refl
 loaded (refused code place) old file e = never code place e
 
 module _ (s : State) (good : sound (machineOf s) ≡ true) (m : Memory) where
   module _ (stream : List ℕ) where
-    pub load-refused : (code place : ℕ) → verdict (load (s .running) stream) ≡ Fail code place → Meets loadParts stream s m (refused code place) stream m s
-    unfolding usable given ownChecks emulatorOf machineOf
-    load-refused code place e = refused-by loadParts stream s m code place good e
+    module _ (l : Loaded) (is : l ≡ loadedOf (load (s .running) stream) (s .registers)) where
+      its-verdict : verdict (load (s .running) stream) ≡ l .verdict
+      its-verdict = sym (ap (λ (x : Loaded). x .verdict) is ∙ loaded-verdict (load (s .running) stream) (s .registers))
 
-    pub load-done : (r : Registers) (s′ : State) → verdict (load (s .running) stream) ≡ Pass → r .slots ≡ loadedSlots (load (s .running) stream) (s .registers .slots)
-        → s′ ≡ withRegistersIn r s → Meets loadParts stream s m (done (value 0)) stream m s′
-    unfolding usable given ownChecks effect emulatorOf machineOf writes written filled edited withRegisters
-    load-done r s′ ok e f =
-        accepted loadParts stream s m stream m s′ good ok refl refl
-        (f ∙ ap (λ (l : List Register). withRegistersIn (record { slots = l }) s) (e ∙ loaded (load (s .running) stream) (s .registers .slots) (fileOf (s .registers)) ok))
+      pub load-refused : (code place : ℕ) → l .verdict ≡ Fail code place → Meets loadParts stream s m (refused code place) stream m s
+      unfolding usable given ownChecks emulatorOf machineOf
+      load-refused code place e = refused-by loadParts stream s m code place good (its-verdict ∙ e)
+
+      pub load-done : (s′ : State) → l .verdict ≡ Pass → s′ ≡ withRegistersIn (l .registers) s → Meets loadParts stream s m (done (value 0)) stream m s′
+      unfolding usable given ownChecks effect emulatorOf machineOf writes written filled edited withRegisters
+      load-done s′ e f =
+          let ok = its-verdict ∙ e in
+          let registers = ap (λ (x : Loaded). x .registers) is ∙ loaded (load (s .running) stream) (s .registers) (fileOf (s .registers)) ok in
+          accepted loadParts stream s m stream m s′ good ok refl refl (f ∙ ap (λ (r : Registers). withRegistersIn r s) registers)
 
   module _ (buf : List ℕ) where
     pub save-refused : (code place : ℕ) → saveChecks (s .running) (fileOf (s .registers)) (length buf) ≡ Fail code place → Meets saveParts buf s m (refused code place) buf m s
@@ -50,8 +54,3 @@ module _ (s : State) (good : sound (machineOf s) ≡ true) (m : Memory) where
         → n ≡ length (saved (fileOf (s .registers))) → Meets saveParts buf s m (done (value n)) out m s
     unfolding usable given ownChecks effect emulatorOf machineOf writes written filled edited
     save-done out n ok e f = rw f (accepted saveParts buf s m out m s good ok e refl refl)
-
--- what passed the check fits the buffer
-pub save-room : (running : Bool) (file : File) (room : ℕ) → saveChecks running file room ≡ Pass → length (saved file) ≤ room
-unfolding saveChecks
-save-room running file room e = ltb-false _ _ (when-pass _ _ (then-pass _ _ e .1))

@@ -103,8 +103,6 @@ pub struct Loaded {
     pub registers: Registers,
 }
 
-const STREAM_LIMIT: usize = 65536;
-
 // Types from here on are refused, and never skipped.
 const RESERVED_KINDS: u64 = 0x600;
 
@@ -264,7 +262,7 @@ pub fn load(registers: Registers, running: bool, s: &[u8]) -> Loaded
             registers,
         };
     }
-    if STREAM_LIMIT < s.len() {
+    if answer::TRANSFER_LIMIT < s.len() {
         return Loaded {
             verdict: Verdict::Fail(answer::TOO_LONG, 0),
             registers,

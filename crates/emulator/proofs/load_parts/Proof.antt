@@ -31,12 +31,12 @@ with-registers-requires c κs = search needs
 returns-2 : tie.Need-returns-2
 returns-2 c =
     let v = c .before .before .before in
-    λ m. load-refused _ (found-true (v .before .before .before .sound .ensures) (v .before .before .if1 .left)) m _ _ _ (sym (v .load .ensures .0) ∙ c .before .verdict .given .1)
+    λ m. load-refused _ (found-true (v .before .before .before .sound .ensures) (v .before .before .if1 .left)) m _ _ (v .load .ensures) _ _ (c .before .verdict .given .1)
 
 returns-3 : tie.Need-returns-3
 returns-3 c =
     let v = c .before .before .before .before in
-    λ m. load-done _ (found-true (v .before .before .before .sound .ensures) (v .before .before .if1 .left)) m _ _ _ (sym (v .load .ensures .0) ∙ c .before .before .enum-told .given .1) (v .load .ensures .1) (c .with-registers .ensures)
+    λ m. load-done _ (found-true (v .before .before .before .sound .ensures) (v .before .before .if1 .left)) m _ _ (v .load .ensures) _ (c .before .before .enum-told .given .1) (c .with-registers .ensures)
 
 pub load-parts-spec : {M : Type 1} → statement M
 load-parts-spec = tie.close (tie.spec sound-requires returns load-requires enum-known-verdict enum-told with-registers-requires returns-2 returns-3)

@@ -2,10 +2,11 @@
 use mathlib.Core.Path.{_≡_, sym, _∙_}
 use borrow.Author.Needs.{needs}
 use Rattle.answer.proofs.Tests.{found-false, found-true}
+use Rattle.parts.proofs.Saving.{save-room}
 use Rattle.emulator.specs.Machine.{usable, emulatorOf}
 use Rattle.emulator.specs.Calls.{given}
 use Rattle.emulator.proofs.Meets.{bad-bench}
-use Rattle.emulator.proofs.PartCalls.{save-room, save-refused, save-done}
+use Rattle.emulator.proofs.PartCalls.{save-refused, save-done}
 use Rattle.emulator.proofs.save_parts.Statement.{statement}
 use Rattle.emulator.proofs.save_parts.Tie as tie
 
