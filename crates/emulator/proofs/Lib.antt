@@ -6,3 +6,4 @@ pub mod HostTransfers
 pub mod DeviceTransfers
 pub mod StateCalls
 pub mod PartCalls
+pub mod Returned

@@ -23,7 +23,7 @@ use Rattle.emulator.specs.declared.State.{State}
 use Rattle.emulator.proofs.Meets.{refused-by, accepted}
 
 -- an accepted stream's registers are those of its file
-loaded : (a : Answer File) (old : Registers) (file : File) → verdict a ≡ Pass → loadedOf a old .registers ≡ record { slots = slotsOf (resultOr file a) }
+pub loaded : (a : Answer File) (old : Registers) (file : File) → verdict a ≡ Pass → loadedOf a old .registers ≡ record { slots = slotsOf (resultOr file a) }
 unfolding verdict loadedOf resultOr
 loaded (done f) old file e = refl
 loaded (refused code place) old file e = never code place e
