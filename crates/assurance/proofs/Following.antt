@@ -29,7 +29,7 @@ use Rattle.memory.specs.Shadow.{initialized, shadowLength}
 use Rattle.memory.specs.Memory.{Memory, edited, byteAt, bytesFrom}
 use Rattle.memory.proofs.Marks.{initialized-below}
 use Rattle.dma.specs.Transfers.{readFault, writeFault, deviceReadChecks, deviceWriteChecks, location, gather}
-use Rattle.dma.proofs.Transfers.{gather-length}
+use Rattle.dma.proofs.Gather.{gather-length}
 use Rattle.emulator.specs.Machine.{Machine, Emulator, both, usable, lendable, sound, soundMappings, poweredOn, withMappings, withRegisters, withRunning}
 use Rattle.emulator.specs.Effect.{Result, value, Effect, Outcome, effectOf, outcomeOf, after, filled}
 use Rattle.emulator.specs.Requests.{Request, getApiVersion, checkExtension, getIommuInfo, mapDma, unmapDma, getInfo, getRegionInfo, getIrqInfo, resetDevice, Entry, identify, requestedMapping, requestedStart, requestedSize, listedChecks, requestChecks, listedEffect, requestEffect}

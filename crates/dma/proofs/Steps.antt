@@ -28,7 +28,8 @@ use Rattle.dma.specs.Walk.{Ready, Accepted, runIn, faultOf}
 use Rattle.dma.specs.declared.Run.{Run}
 use Rattle.dma.specs.declared.Run.the-variants.{Gap, Passed, Shows}
 use Rattle.dma.proofs.Walk.{entry, Walk, walk-start, end-nowhere, gap-nowhere, walk-past, run-room, run-translate, walk-run}
-use Rattle.dma.proofs.Transfers.{Contiguous, fault-nowhere, runFault, gather-length, gather-more, scatter-more}
+use Rattle.dma.proofs.Gather.{gather-length}
+use Rattle.dma.proofs.Transfers.{Contiguous, fault-nowhere, runFault, gather-more, scatter-more}
 
 -- ---- judging
 

@@ -29,6 +29,7 @@ use Rattle.memory.specs.Transfers.{unwrittenIn}
 use Rattle.memory.proofs.Edits.{edited-append}
 use Rattle.dma.specs.Transfers.{readFault, writeFault, transferChecks, deviceReadChecks, deviceWriteChecks, location, gather, scatter}
 use Rattle.dma.specs.Walk.{Accepted, faultOf}
+use Rattle.dma.proofs.Gather.{gather-length, gather-append}
 
 -- ---- the fault of one byte
 
@@ -118,20 +119,6 @@ pub write-accepted : (ms : List Mapping) (d : DeviceAddress) (n : ℕ) → devic
 write-accepted ms d n h = accepted true [] ms d n (checks-write ms [] d n ∙ h)
 
 -- ---- gather and scatter
-
-pub gather-length : (ms : List Mapping) (m : Memory) (d : DeviceAddress) (n : ℕ) → length (gather ms m d n) ≡ n
-unfolding gather
-gather-length ms m d zero = refl
-gather-length ms m d (suc n) = ap suc (gather-length ms m (deviceOffset d 1) n)
-
--- one behind the other
-pub gather-append : (ms : List Mapping) (m : Memory) (d : DeviceAddress) (n k : ℕ)
-    → gather ms m d (n + k) ≡ gather ms m d n ++ gather ms m (deviceOffset d n) k
-unfolding gather
-gather-append ms m d zero k = rw (zero-add k, add-zero (d .0))
-gather-append ms m d (suc n) k =
-    let e : d .0 + suc n ≡ d .0 + 1 + n = omega arith in
-    rw (suc-add n k, e, gather-append ms m (deviceOffset d 1) n k)
 
 pub scatter-append : (ms : List Mapping) (d : DeviceAddress) (xs ys : List ℕ)
     → scatter ms d (xs ++ ys) ≡ scatter ms d xs ++ scatter ms (deviceOffset d (length xs)) ys

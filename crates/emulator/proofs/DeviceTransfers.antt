@@ -12,7 +12,7 @@ use Rattle.iommu.specs.Table.{inUse}
 use Rattle.memory.specs.Memory.{Memory, edited}
 use Rattle.dma.specs.Transfers.{deviceReadChecks, deviceWriteChecks, gather, scatter}
 use Rattle.dma.specs.Walk.{Ready}
-use Rattle.dma.proofs.Transfers.{gather-length}
+use Rattle.dma.proofs.Gather.{gather-length}
 use Rattle.emulator.specs.Machine.{both, usable, emulatorOf, machineOf}
 use Rattle.emulator.specs.Effect.{value, filled}
 use Rattle.emulator.specs.Calls.{deviceRead, deviceWrite, given, ownChecks, effect}
