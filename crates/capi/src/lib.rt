@@ -6,13 +6,15 @@ use answer::Answer;
 use emulator::Location;
 use emulator::Reply;
 use emulator::State;
+use parts::Step;
 ghost use mathlib.Core.Path.{_≡_};
 ghost use mathlib.Core.List.{List, []};
 ghost use Rattle.address.specs.Address.{deviceAddress, memoryAddress};
 ghost use Rattle.memory.specs.Memory.{Memory, memoryOf};
 ghost use Rattle.emulator.specs.Calls.{powerOn, lookUp, deviceRead, deviceWrite, hostWrite, hostRead, invalidate, setRegister, readRegister, loadParts, saveParts, stop, start};
 ghost use Rattle.emulator.specs.Contract.{Meets, told, toldLocation};
-ghost use Rattle.capi.specs.Outcome.{toldBy, toldByFound};
+ghost use Rattle.parts.specs.Step.{stepAt};
+ghost use Rattle.capi.specs.Outcome.{toldBy, toldByFound, stepBy};
 
 // An answer: a result, or the number and the place of a refusal.
 #[repr(C)]
@@ -36,6 +38,19 @@ pub struct Found {
     pub outcome: Outcome,
     pub address: MemoryAddress,
     pub rights: u32,
+}
+
+// One step over a stream of parts: a refusal; the end; or a part, whose value reaches from 16 bytes behind the step's place to `next`.
+#[repr(C)]
+pub struct PartStep {
+    pub refused: bool,
+    pub end: bool,
+    pub code: u32,
+    pub place: u64,
+    pub kind: u16,
+    pub flags: u8,
+    pub selector: u64,
+    pub next: usize,
 }
 
 // An answer as numbers; those that it has no use for are 0.
@@ -231,4 +246,49 @@ pub extern "C" fn glint_start(state: State) -> Kept
     ensures { λ r. ⌜ ((m : Memory) → Meets start [] state m (toldBy (r .outcome)) [] m (r .state)) ⌝ }
 {
     with_state(emulator::start(state))
+}
+
+// A step of the walker over a stream.
+#[no_mangle]
+pub extern "C" fn glint_step(stream: &[u8], place: usize) -> PartStep
+    ensures { λ r. ⌜ stepBy r ≡ stepAt (now (stream .entry)) place ⌝ }
+{
+    let step = parts::step_at(stream, place);
+    match step {
+        Step::Part {
+            kind,
+            flags,
+            selector,
+            next,
+        } => PartStep {
+            refused: false,
+            end: false,
+            code: 0,
+            place: 0,
+            kind,
+            flags,
+            selector,
+            next,
+        },
+        Step::End => PartStep {
+            refused: false,
+            end: true,
+            code: 0,
+            place: 0,
+            kind: 0,
+            flags: 0,
+            selector: 0,
+            next: place,
+        },
+        Step::Refused(code, at) => PartStep {
+            refused: true,
+            end: false,
+            code,
+            place: at,
+            kind: 0,
+            flags: 0,
+            selector: 0,
+            next: place,
+        },
+    }
 }
