@@ -5,18 +5,17 @@ use native.Mathlib.Numerals.{add-one}
 use mathlib.Core.Path.{_≡_, refl, sym, _∙_}
 use mathlib.Core.Bool.{Bool, true, false}
 use mathlib.Core.List.{List, map}
-use mathlib.Core.Option.{Option, none, some}
+use mathlib.Core.Option.{none, some}
 use lib.ListN.{length, getD, drop, drop-of-length-le, List·getD-map}
 use lib.Seq.{drop-cons}
 use lib.Dec.{eqb, ltb, leb}
-use borrow.Author.Tests.{eq-eqb, ne-eqb, lt-ltb, le-ltb, le-leb, lt-leb, ltb-true, ltb-false, leb-true}
+use borrow.Author.Tests.{eq-eqb, ne-eqb, lt-ltb, le-ltb, ltb-true, ltb-false, leb-true}
 use Rattle.answer.specs.Tests.{_and_, pick}
 use Rattle.answer.specs.Codes.{NoSuchRequest, Short, ArgSize}
 use Rattle.answer.specs.Checks.{_then_, _when_, _unless_}
-use Rattle.answer.specs.declared.Verdict.{Verdict}
 use Rattle.answer.specs.declared.Verdict.the-variants.{Pass, Fail}
-use Rattle.answer.proofs.Tests.{below, below-at, pick-true, pick-false}
-use Rattle.answer.proofs.Checks.{never, then-pass, then-fail, then-next, when-pass, when-true, when-false, unless-true, unless-false}
+use Rattle.answer.proofs.Tests.{below, below-at, pick-true}
+use Rattle.answer.proofs.Checks.{never, then-pass, when-pass}
 use Rattle.wire.specs.Field.{field}
 use Rattle.emulator.specs.Requests.{Entry, requests, entryIn, identify, argszChecks}
 use Rattle.vfio.specs.Entries.{requestCount, noEntry, entryOf, entryAt, sizeChecks}

@@ -1,6 +1,6 @@
 -- The request call from its parts: which entry is meant, checks 2, 3 and 4, and the handler of the request.
 use Prim.Native.Nat.{ℕ}
-use mathlib.Core.Path.{_≡_, refl, sym, _∙_, ap}
+use mathlib.Core.Path.{_≡_, refl, sym, _∙_}
 use mathlib.Core.Bool.{true}
 use mathlib.Core.List.{List, []}
 use mathlib.Core.Option.{Option, none, some}
@@ -9,12 +9,12 @@ use Rattle.answer.specs.Checks.{_then_, _unless_}
 use Rattle.answer.specs.declared.Verdict.{Verdict}
 use Rattle.answer.specs.declared.Verdict.the-variants.{Pass, Fail}
 use Rattle.answer.proofs.Checks.{then-assoc, then-fail, then-next}
-use Rattle.memory.specs.Memory.{Memory, Edit, edited}
+use Rattle.memory.specs.Memory.{Memory, edited}
 use Rattle.emulator.specs.Machine.{Emulator, both, usable, emulatorOf}
-use Rattle.emulator.specs.Effect.{Result, Effect, Outcome, effectOf, outcomeOf, filled}
+use Rattle.emulator.specs.Effect.{Result, effectOf, outcomeOf}
 use Rattle.emulator.specs.Requests.{Request, getApiVersion, checkExtension, getIommuInfo, mapDma, unmapDma, getInfo, getRegionInfo, getIrqInfo, resetDevice, Entry, identify, listedChecks, requestChecks, listedEffect, requestEffect}
 use Rattle.emulator.specs.Calls.{request, given, ownChecks, checks, effect, outcome}
-use Rattle.emulator.specs.Contract.{entryWrites, requestWrites, writes, returned, Meets}
+use Rattle.emulator.specs.Contract.{entryWrites, requestWrites, writes, Meets}
 use Rattle.emulator.specs.declared.State.{State}
 use Rattle.emulator.proofs.Meets.{refused-by}
 use Rattle.vfio.specs.Entries.{entryOf, entryAt, sizeChecks}

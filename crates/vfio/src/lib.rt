@@ -48,6 +48,8 @@ const GET_REGION_INFO: usize = 6;
 
 const GET_IRQ_INFO: usize = 7;
 
+const RESET_DEVICE: usize = 8;
+
 const TARGETS: [u32; 9] = [
     CONTAINER,
     CONTAINER,
@@ -116,7 +118,14 @@ fn check_size(index: usize, buf: &[u8]) -> Verdict
 
 // ---- container
 
+const API_VERSION: u64 = 0;
+
 const TYPE1V2: u32 = 3;
+
+// The flag that says that page sizes are given, and these: a bitmap, in which a page of 4,096 bytes is that bit.
+const PAGE_SIZES_GIVEN: u32 = 1;
+
+const PAGE_SIZES: u64 = 4096;
 
 fn check_extension(buf: &[u8]) -> Answer
     requires { ⌜ 4 ≤ length (now buf) ⌝ }
@@ -128,13 +137,12 @@ fn check_extension(buf: &[u8]) -> Answer
     Answer::Done(0)
 }
 
-// The page sizes are a bitmap, in which a page of 4,096 bytes is that bit.
 fn get_iommu_info(buf: &mut [u8]) -> Answer
     requires { ⌜ 16 ≤ length (now buf) ⌝ }
     ensures { λ r. ⌜ Answers getIommuInfo (now (buf .entry)) (told r) (now (buf .exit)) ⌝ }
 {
-    wire::put_u32(buf, 4, 1);
-    wire::put_u64(buf, 8, 4096);
+    wire::put_u32(buf, 4, PAGE_SIZES_GIVEN);
+    wire::put_u64(buf, 8, PAGE_SIZES);
     Answer::Done(0)
 }
 
@@ -210,6 +218,9 @@ fn unmap_dma(state: State, buf: &mut [u8]) -> Reply
 
 // ---- device
 
+// The device can be reset (1) and is a PCI device (2).
+const DEVICE_FLAGS: u32 = 3;
+
 const REGIONS: u32 = 9;
 
 const INTERRUPTS: u32 = 4;
@@ -225,12 +236,11 @@ const INTERRUPT_COUNTS: [u32; 4] = [1, 8, 16, 0];
 
 const INTERRUPT_FLAGS: [u32; 4] = [7, 9, 9, 0];
 
-// The device can be reset (flag 1) and is a PCI device (flag 2).
 fn get_info(buf: &mut [u8]) -> Answer
     requires { ⌜ 16 ≤ length (now buf) ⌝ }
     ensures { λ r. ⌜ Answers getInfo (now (buf .entry)) (told r) (now (buf .exit)) ⌝ }
 {
-    wire::put_u32(buf, 4, 3);
+    wire::put_u32(buf, 4, DEVICE_FLAGS);
     wire::put_u32(buf, 8, REGIONS);
     wire::put_u32(buf, 12, INTERRUPTS);
     Answer::Done(0)
@@ -289,7 +299,7 @@ fn dispatch(state: State, index: usize, buf: &mut [u8]) -> Reply
 {
     match index {
         GET_API_VERSION => Reply {
-            answer: Answer::Done(0),
+            answer: Answer::Done(API_VERSION),
             state,
         },
         CHECK_EXTENSION => Reply {
@@ -314,7 +324,12 @@ fn dispatch(state: State, index: usize, buf: &mut [u8]) -> Reply
             answer: get_irq_info(buf),
             state,
         },
-        _ => reset_device(state, buf),
+        RESET_DEVICE => reset_device(state, buf),
+        // Not reached: check 2 has refused what is not listed.
+        _ => Reply {
+            answer: Answer::Refused(answer::NO_SUCH_REQUEST, 0),
+            state,
+        },
     }
 }
 

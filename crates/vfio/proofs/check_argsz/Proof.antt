@@ -1,5 +1,4 @@
 -- `vfio::check_argsz` meets its contract.
-use mathlib.Core.Path.{_≡_, sym, _∙_}
 use borrow.Author.Tests.{le-leb, lt-leb}
 use Rattle.answer.specs.Tests.{_and_}
 use Rattle.answer.specs.Checks.{_unless_}

@@ -1,5 +1,5 @@
 -- `vfio::check_extension` meets its contract.
-use mathlib.Core.Path.{_≡_, sym, _∙_}
+use mathlib.Core.Path.{sym, _∙_}
 use Rattle.vfio.proofs.Handlers.{extension-held, extension-not}
 use borrow.Author.Needs.{needs}
 use Rattle.vfio.proofs.check_extension.Statement.{statement}

@@ -1,5 +1,5 @@
 -- `vfio::check_size` meets its contract, test by test.
-use mathlib.Core.Path.{_≡_, sym, _∙_}
+use mathlib.Core.Path.{_∙_}
 use borrow.Author.Tests.{not-true, not-false}
 use Rattle.vfio.proofs.Entries.{check-unlisted, check-short, check-plain, check-argsz, argsz-room}
 use borrow.Author.Needs.{needs}

@@ -1,5 +1,8 @@
 -- `vfio::get_info` meets its contract: each field is written.
-use Rattle.vfio.proofs.Handlers.{put-first, put-last, info}
+use mathlib.Core.Path.{refl}
+use Rattle.emulator.specs.Requests.{getInfo, listedChecks, listedEffect}
+use Rattle.emulator.specs.Contract.{requestWrites}
+use Rattle.vfio.proofs.Handlers.{reports, put-first, put-last}
 use borrow.Author.Needs.{needs}
 use Rattle.vfio.proofs.get_info.Statement.{statement}
 use Rattle.vfio.proofs.get_info.Tie as tie
@@ -17,7 +20,12 @@ same-length : tie.Need-same-length
 same-length c = search needs
 
 returns : tie.Need-returns
-returns c = info _ _ (put-first _ _ _ _ _ (c .before .before .before .before .before .before .before .before .before .before .put-u32 .ensures) (put-first _ _ _ _ _ (c .before .before .before .before .before .before .put-u322 .ensures) (put-last _ _ _ (c .before .before .put-u323 .ensures))))
+unfolding listedChecks listedEffect requestWrites
+returns c =
+    let p3 = c .before .before in
+    let p2 = p3 .before .before .before .before in
+    let p1 = p2 .before .before .before .before in
+    reports getInfo _ _ 0 _ (λ e. refl) (λ e. refl) refl (put-first _ _ _ _ _ (p1 .put-u32 .ensures) (put-first _ _ _ _ _ (p2 .put-u322 .ensures) (put-last _ _ _ (p3 .put-u323 .ensures))))
 
 pub get-info-spec : {M : Type 1} → statement M
 get-info-spec =

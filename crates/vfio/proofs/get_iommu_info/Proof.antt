@@ -1,5 +1,8 @@
 -- `vfio::get_iommu_info` meets its contract: each field is written.
-use Rattle.vfio.proofs.Handlers.{put-first, put-last, iommu-info}
+use mathlib.Core.Path.{refl}
+use Rattle.emulator.specs.Requests.{getIommuInfo, listedChecks, listedEffect}
+use Rattle.emulator.specs.Contract.{requestWrites}
+use Rattle.vfio.proofs.Handlers.{reports, put-first, put-last}
 use borrow.Author.Needs.{needs}
 use Rattle.vfio.proofs.get_iommu_info.Statement.{statement}
 use Rattle.vfio.proofs.get_iommu_info.Tie as tie
@@ -14,7 +17,11 @@ same-length : tie.Need-same-length
 same-length c = search needs
 
 returns : tie.Need-returns
-returns c = iommu-info _ _ (put-first _ _ _ _ _ (c .before .before .before .before .before .before .put-u32 .ensures) (put-last _ _ _ (c .before .before .put-u64 .ensures)))
+unfolding listedChecks listedEffect requestWrites
+returns c =
+    let p2 = c .before .before in
+    let p1 = p2 .before .before .before .before in
+    reports getIommuInfo _ _ 0 _ (λ e. refl) (λ e. refl) refl (put-first _ _ _ _ _ (p1 .put-u32 .ensures) (put-last _ _ _ (p2 .put-u64 .ensures)))
 
 pub get-iommu-info-spec : {M : Type 1} → statement M
 get-iommu-info-spec = tie.close (tie.spec put-u32-requires put-u64-requires same-length returns)

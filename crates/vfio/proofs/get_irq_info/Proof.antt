@@ -1,5 +1,5 @@
 -- `vfio::get_irq_info` meets its contract: the index is judged, then each field is written.
-use mathlib.Core.Path.{_≡_, refl}
+use mathlib.Core.Path.{refl}
 use Rattle.emulator.specs.Requests.{getIrqInfo, requestedIndex, listedChecks}
 use Rattle.vfio.proofs.Handlers.{put-first, put-last, index-refused, irq-info}
 use borrow.Author.Needs.{needs}
@@ -14,7 +14,7 @@ same-length c = search needs
 
 returns : tie.Need-returns
 unfolding listedChecks requestedIndex
-returns c = index-refused getIrqInfo _ _ (c .before .get-u32 .ensures) _ (λ e. refl) (c .if1 .taken)
+returns c = index-refused getIrqInfo _ _ (λ e. refl) _ (c .before .get-u32 .ensures) (c .if1 .taken)
 
 cast-i : tie.Need-cast-i
 cast-i c = search needs
@@ -42,9 +42,10 @@ same-length-2 c = search needs
 
 returns-2 : tie.Need-returns-2
 returns-2 c =
-    let t = c .before .before .before .before .before .before .before .before in
-    irq-info _ _ _ (t .before .get-u32 .ensures) (t .if1 .left)
-    (put-first _ _ _ _ _ (c .before .before .before .before .before .before .put-u32 .ensures) (put-last _ _ _ (c .before .before .put-u322 .ensures)))
+    let p2 = c .before .before in
+    let p1 = p2 .before .before .before .before in
+    let t = p1 .before .before in
+    irq-info _ _ _ (t .before .get-u32 .ensures) (t .if1 .left) (put-first _ _ _ _ _ (p1 .put-u32 .ensures) (put-last _ _ _ (p2 .put-u322 .ensures)))
 
 pub get-irq-info-spec : {M : Type 1} → statement M
 get-irq-info-spec =

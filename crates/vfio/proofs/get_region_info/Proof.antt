@@ -1,5 +1,5 @@
 -- `vfio::get_region_info` meets its contract: the index is judged, then each field is written.
-use mathlib.Core.Path.{_≡_, refl}
+use mathlib.Core.Path.{refl}
 use Rattle.emulator.specs.Requests.{getRegionInfo, requestedIndex, listedChecks}
 use Rattle.vfio.proofs.Handlers.{put-first, put-last, index-refused, region-info}
 use borrow.Author.Needs.{needs}
@@ -14,7 +14,7 @@ same-length c = search needs
 
 returns : tie.Need-returns
 unfolding listedChecks requestedIndex
-returns c = index-refused getRegionInfo _ _ (c .before .get-u32 .ensures) _ (λ e. refl) (c .if1 .taken)
+returns c = index-refused getRegionInfo _ _ (λ e. refl) _ (c .before .get-u32 .ensures) (c .if1 .taken)
 
 cast-i : tie.Need-cast-i
 cast-i c = search needs
@@ -54,9 +54,12 @@ same-length-2 c = search needs
 
 returns-2 : tie.Need-returns-2
 returns-2 c =
-    let t = c .before .before .before .before .before .before .before .before .before .before .before .before .before .before .before .before in
-    region-info _ _ _ (t .before .get-u32 .ensures) (t .if1 .left)
-    (put-first _ _ _ _ _ (c .before .before .before .before .before .before .before .before .before .before .before .before .before .before .put-u32 .ensures) (put-first _ _ _ _ _ (c .before .before .before .before .before .before .before .before .before .before .put-u322 .ensures) (put-first _ _ _ _ _ (c .before .before .before .before .before .before .put-u64 .ensures) (put-last _ _ _ (c .before .before .put-u642 .ensures)))))
+    let p4 = c .before .before in
+    let p3 = p4 .before .before .before .before in
+    let p2 = p3 .before .before .before .before in
+    let p1 = p2 .before .before .before .before in
+    let t = p1 .before .before in
+    region-info _ _ _ (t .before .get-u32 .ensures) (t .if1 .left) (put-first _ _ _ _ _ (p1 .put-u32 .ensures) (put-first _ _ _ _ _ (p2 .put-u322 .ensures) (put-first _ _ _ _ _ (p3 .put-u64 .ensures) (put-last _ _ _ (p4 .put-u642 .ensures)))))
 
 pub get-region-info-spec : {M : Type 1} → statement M
 get-region-info-spec =

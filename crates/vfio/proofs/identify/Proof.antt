@@ -1,6 +1,5 @@
 -- `vfio::identify` meets its contract: the entries before `i` are others.
 use Prim.Native.Nat.{_-_}
-use mathlib.Core.Path.{_≡_, sym, _∙_}
 use mathlib.Core.Logic.{⊎-elim}
 use borrow.Author.Needs.{needs}
 use Rattle.vfio.specs.Entries.{requestCount}

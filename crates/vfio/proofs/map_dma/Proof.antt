@@ -1,5 +1,4 @@
 -- `vfio::map_dma` meets its contract.
-use Prim.Native.Nat.{_≤_}
 use native.Mathlib.Omega.{arith}
 use mathlib.Core.Path.{_≡_, sym, _∙_}
 use lib.ListN.{length}
@@ -32,13 +31,12 @@ insert-requires c κs =
 returns : tie.Need-returns
 returns c =
     let v = c .before .before .before in
-    map-refused _ _ _ _ (rw (← v .before .requested-mapping .ensures) (sym (v .check-map .ensures) ∙ c .before .verdict .given .1))
+    map-refused _ _ _ (v .before .requested-mapping .ensures) _ (v .check-map .ensures) _ _ (c .before .verdict .given .1)
 
 returns-2 : tie.Need-returns-2
 returns-2 c =
     let v = c .before .before .before in
-    let e = v .before .requested-mapping .ensures in
-    map-done _ _ _ (rw (← e) (sym (v .check-map .ensures) ∙ c .before .enum-told .given .1)) (rw (← e) (c .insert .ensures))
+    map-done _ _ _ (v .before .requested-mapping .ensures) _ (v .check-map .ensures) _ (c .before .enum-told .given .1) (c .insert .ensures)
 
 pub map-dma-spec : {M : Type 1} → statement M
 map-dma-spec =

@@ -1,5 +1,5 @@
 -- `vfio::request` meets its contract: refusal 1, a refusal by size, or what the handler of the request replies.
-use mathlib.Core.Path.{_≡_, sym, _∙_}
+use mathlib.Core.Path.{sym, _∙_}
 use Rattle.answer.proofs.Tests.{found-false, found-true}
 use Rattle.emulator.specs.Calls.{given}
 use Rattle.emulator.proofs.Meets.{bad-bench}

@@ -1,5 +1,4 @@
 -- `vfio::requested_mapping` meets its contract, field by field.
-use mathlib.Core.Path.{_≡_, sym, _∙_}
 use Rattle.emulator.specs.Requests.{requestedMapping}
 use borrow.Author.Needs.{needs}
 use Rattle.vfio.proofs.requested_mapping.Statement.{statement}

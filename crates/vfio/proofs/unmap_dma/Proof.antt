@@ -1,6 +1,5 @@
 -- `vfio::unmap_dma` meets its contract.
-use mathlib.Core.Path.{_≡_, sym, _∙_}
-use Rattle.emulator.specs.Requests.{requestedStart, requestedSize}
+use mathlib.Core.Path.{sym, _∙_}
 use Rattle.iommu.proofs.Changes.{unmap-range}
 use Rattle.vfio.proofs.Handlers.{unmap-refused, unmap-done}
 use borrow.Author.Needs.{needs}
@@ -28,7 +27,7 @@ enum-told c = search needs
 remove-requires : tie.Need-remove-requires
 remove-requires c κs =
     let v = c .before .before in
-    (c .before .before .before .before .before .before .before .before .before .before .before .pre .0, unmap-range _ _ _ _ (sym (v .check-unmap .ensures) ∙ c .enum-told .given .1))
+    (v .before .before .before .before .before .before .before .before .before .pre .0, unmap-range _ _ _ _ (sym (v .check-unmap .ensures) ∙ c .enum-told .given .1))
 
 put-u64-requires : tie.Need-put-u64-requires
 put-u64-requires c κs = search needs
@@ -37,21 +36,22 @@ same-length : tie.Need-same-length
 same-length c = search needs
 
 returns : tie.Need-returns
-unfolding requestedStart requestedSize
 returns c =
     let v = c .before .before .before in
-    unmap-refused _ _ _ _ (rw (← v .before .get-u642 .ensures, ← v .before .before .before .get-u64 .ensures, ← v .before .before .before .before .before .get-u32 .ensures) (sym (v .check-unmap .ensures) ∙ c .before .verdict .given .1))
+    let n = v .before in
+    let a = n .before .before in
+    unmap-refused _ _ _ _ _ (a .before .before .get-u32 .ensures) (a .get-u64 .ensures) (n .get-u642 .ensures) _ (v .check-unmap .ensures) _ _ (c .before .verdict .given .1)
 
 same-length-2 : tie.Need-same-length-2
 same-length-2 c = search needs
 
 returns-2 : tie.Need-returns-2
-unfolding requestedStart requestedSize
 returns-2 c =
     let r = c .before .before .before .before .before in
     let v = r .before .before .before in
-    unmap-done _ _ _ _ _ (rw (← v .before .get-u642 .ensures, ← v .before .before .before .get-u64 .ensures, ← v .before .before .before .before .before .get-u32 .ensures) (sym (v .check-unmap .ensures) ∙ r .before .enum-told .given .1))
-    (rw (← v .before .get-u642 .ensures, ← v .before .before .before .get-u64 .ensures) (r .remove .ensures .0)) (rw (← v .before .get-u642 .ensures, ← v .before .before .before .get-u64 .ensures) (r .remove .ensures .1)) (c .before .before .before .put-u64 .ensures)
+    let n = v .before in
+    let a = n .before .before in
+    unmap-done _ _ _ _ _ (a .before .before .get-u32 .ensures) (a .get-u64 .ensures) (n .get-u642 .ensures) _ (v .check-unmap .ensures) _ _ _ (r .before .enum-told .given .1) (r .remove .ensures .0) (r .remove .ensures .1) (c .before .before .before .put-u64 .ensures)
 
 pub unmap-dma-spec : {M : Type 1} → statement M
 unmap-dma-spec =
