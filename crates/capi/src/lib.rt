@@ -11,7 +11,7 @@ ghost use mathlib.Core.Path.{_≡_};
 ghost use mathlib.Core.List.{List, []};
 ghost use Rattle.address.specs.Address.{deviceAddress, memoryAddress};
 ghost use Rattle.memory.specs.Memory.{Memory, memoryOf};
-ghost use Rattle.emulator.specs.Calls.{powerOn, lookUp, deviceRead, deviceWrite, hostWrite, hostRead, invalidate, setRegister, readRegister, loadParts, saveParts, stop, start};
+ghost use Rattle.emulator.specs.Calls.{powerOn, request, lookUp, deviceRead, deviceWrite, hostWrite, hostRead, invalidate, setRegister, readRegister, loadParts, saveParts, stop, start};
 ghost use Rattle.emulator.specs.Contract.{Meets, told, toldLocation};
 ghost use Rattle.parts.specs.Step.{stepAt};
 ghost use Rattle.capi.specs.Outcome.{toldBy, toldByFound, stepBy};
@@ -115,6 +115,21 @@ pub extern "C" fn glint_power_on(state: State, bytes: &[u8], shadow: &mut [u8]) 
     ensures { λ r. ⌜ Meets powerOn [] state (memoryOf (now (bytes .entry)) (now (shadow .entry))) (toldBy (r .outcome)) [] (memoryOf (now (bytes .entry)) (now (shadow .exit))) (r .state) ⌝ }
 {
     with_state(emulator::power_on(state, bytes, shadow))
+}
+
+// A request, by target (0 the container, 1 the device) and number.
+#[no_mangle]
+pub extern "C" fn glint_request(
+    state: State,
+    bytes: &[u8],
+    shadow: &[u8],
+    target: u32,
+    number: u32,
+    buf: &mut [u8],
+) -> Kept
+    ensures { λ r. ⌜ Meets (request target number) (now (buf .entry)) state (memoryOf (now (bytes .entry)) (now (shadow .entry))) (toldBy (r .outcome)) (now (buf .exit)) (memoryOf (now (bytes .entry)) (now (shadow .entry))) (r .state) ⌝ }
+{
+    with_state(vfio::request(state, bytes, shadow, target, number, buf))
 }
 
 // Look-up.

@@ -2,7 +2,7 @@
 use native.Mathlib.Omega.{arith}
 use mathlib.Core.Path.{_≡_, sym, _∙_}
 use lib.ListN.{length}
-use Rattle.iommu.proofs.Passes.{length-mapped}
+use Rattle.answer.proofs.Arrays.{length-mapped}
 use Rattle.iommu.proofs.Changes.{map-room}
 use Rattle.vfio.proofs.Handlers.{map-refused, map-done}
 use borrow.Author.Needs.{needs}
