@@ -11,12 +11,11 @@ use lib.Seq.{drop-cons}
 use lib.Dec.{eqb, ltb, leb}
 use borrow.Author.Tests.{eq-eqb, ne-eqb, lt-ltb, le-ltb, ltb-true, ltb-false, leb-true}
 use Rattle.answer.specs.Tests.{_and_, pick}
-use Rattle.answer.specs.Codes.{NoSuchRequest, Short, ArgSize}
-use Rattle.answer.specs.Checks.{_then_, _when_, _unless_}
+use Rattle.answer.specs.Codes.{NoSuchRequest, Short}
+use Rattle.answer.specs.Checks.{_then_, _when_}
 use Rattle.answer.specs.declared.Verdict.the-variants.{Pass, Fail}
 use Rattle.answer.proofs.Tests.{below, below-at, pick-true}
 use Rattle.answer.proofs.Checks.{never, then-pass, when-pass}
-use Rattle.wire.specs.Field.{field}
 use Rattle.emulator.specs.Requests.{Entry, requests, entryIn, identify, argszChecks}
 use Rattle.vfio.specs.Entries.{requestCount, noEntry, entryOf, entryAt, sizeChecks}
 
@@ -104,8 +103,8 @@ module _ (buf : List ℕ) (i : ℕ) (lt : i < requestCount) where
       first-is : entryOf i .argsz ≡ true
       first-is = sym (column (λ e. e .argsz) i) ∙ first
 
-      pub check-argsz : (ArgSize unless (leb (sizeAt i) (field buf 0 4) and leb (field buf 0 4) (length buf))) ≡ sizeChecks (entryAt i) buf
-      unfolding sizeChecks _then_ _when_ argszChecks
+      pub check-argsz : argszChecks true (sizeAt i) buf ≡ sizeChecks (entryAt i) buf
+      unfolding sizeChecks _then_ _when_
       check-argsz = rw (entry-at i lt, first-is, le-ltb _ _ (rw size at long), size)
 
       -- an entry whose first field is argsz has room for it
@@ -133,7 +132,7 @@ size-passed buf i h = go (ltb i requestCount) refl
 pub size-room : (buf : List ℕ) (i k : ℕ) → i ≡ k → sizeChecks (entryAt i) buf ≡ Pass → entryOf k .size ≤ length buf
 size-room buf i k e h = rw e at (size-passed buf i h .1)
 
--- ---- the last arm of a `match` on an index
+-- ---- the arm of a `match` for every other index
 
 -- an index is none of the numbers below `k`, as the arms before it tell
 abbrev pub Others : ℕ → ℕ → Type 0

@@ -8,11 +8,11 @@ use lib.Dec.{ltb}
 use borrow.Author.Tests.{lt-ltb, le-ltb, eq-eqb, ne-eqb}
 use Rattle.answer.specs.Tests.{pick}
 use Rattle.answer.specs.Codes.{Index}
+use Rattle.answer.specs.Checks.{_unless_}
 use Rattle.answer.specs.Answer.{Answer, done, refused, settle}
 use Rattle.answer.specs.declared.Verdict.{Verdict}
 use Rattle.answer.specs.declared.Verdict.the-variants.{Pass, Fail}
 use Rattle.answer.proofs.Checks.{unless-true, unless-false}
-use Rattle.answer.specs.Checks.{_unless_}
 use Rattle.address.specs.Address.{deviceAddress}
 use Rattle.wire.specs.Field.{field, bytesOf}
 use Rattle.iommu.specs.Table.{inside, insert, without, sizeOf, inUse, holding}

@@ -7,17 +7,13 @@ use emulator::Reply;
 use emulator::State;
 use iommu::Mapping;
 ghost use mathlib.Core.Path.{_≡_};
+ghost use mathlib.Core.Bool.{true};
 ghost use Prim.Native.Nat.{_≤_};
-ghost use lib.Dec.{leb};
 ghost use lib.ListN.{length};
-ghost use Rattle.answer.specs.Tests.{_and_};
-ghost use Rattle.answer.specs.Codes.{ArgSize};
-ghost use Rattle.answer.specs.Checks.{_unless_};
 ghost use Rattle.answer.specs.declared.Verdict.the-variants.{Pass};
-ghost use Rattle.wire.specs.Field.{field};
 ghost use Rattle.iommu.specs.Table.{Sound};
 ghost use Rattle.memory.specs.Memory.{memoryOf};
-ghost use Rattle.emulator.specs.Requests.{checkExtension, getIommuInfo, mapDma, unmapDma, getInfo, getRegionInfo, getIrqInfo, resetDevice, requestedMapping, identify as identified};
+ghost use Rattle.emulator.specs.Requests.{checkExtension, getIommuInfo, mapDma, unmapDma, getInfo, getRegionInfo, getIrqInfo, resetDevice, requestedMapping, argszChecks, identify as identified};
 ghost use Rattle.emulator.specs.Calls as calls;
 ghost use Rattle.emulator.specs.Contract.{Meets, told};
 ghost use Rattle.vfio.specs.Entries.{requestCount, entryOf, entryAt, sizeChecks};
@@ -88,7 +84,7 @@ fn identify(target: u32, number: u32) -> usize
 
 fn check_argsz(buf: &[u8], size: usize) -> Verdict
     requires { ⌜ 4 ≤ length (now buf) ⌝ }
-    ensures { λ r. ⌜ r ≡ (ArgSize unless (leb size (field (now (buf .entry)) 0 4) and leb (field (now (buf .entry)) 0 4) (length (now (buf .entry))))) ⌝ }
+    ensures { λ r. ⌜ r ≡ argszChecks true size (now (buf .entry)) ⌝ }
 {
     let argsz = wire::get_u32(buf, 0) as usize;
     if argsz < size {

@@ -2,6 +2,7 @@
 use borrow.Author.Tests.{le-leb, lt-leb}
 use Rattle.answer.specs.Tests.{_and_}
 use Rattle.answer.specs.Checks.{_unless_}
+use Rattle.emulator.specs.Requests.{argszChecks}
 use borrow.Author.Needs.{needs}
 use Rattle.vfio.proofs.check_argsz.Statement.{statement}
 use Rattle.vfio.proofs.check_argsz.Tie as tie
@@ -13,15 +14,15 @@ cast-argsz : tie.Need-cast-argsz
 cast-argsz c = search needs
 
 returns : tie.Need-returns
-unfolding _and_ _unless_
+unfolding argszChecks _and_ _unless_
 returns c = rw (← c .before .get-u32 .ensures, lt-leb _ _ (c .if1 .taken))
 
 returns-2 : tie.Need-returns-2
-unfolding _and_ _unless_
+unfolding argszChecks _and_ _unless_
 returns-2 c = rw (← c .before .before .get-u32 .ensures, le-leb _ _ (c .before .if1 .left), lt-leb _ _ (c .if2 .taken))
 
 returns-3 : tie.Need-returns-3
-unfolding _and_ _unless_
+unfolding argszChecks _and_ _unless_
 returns-3 c = rw (← c .before .before .get-u32 .ensures, le-leb _ _ (c .before .if1 .left), le-leb _ _ (c .if2 .left))
 
 pub check-argsz-spec : {M : Type 1} → statement M
