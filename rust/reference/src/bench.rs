@@ -1,0 +1,408 @@
+//! The bench: its limits, the mapping table, the kept state and when it is sound.
+
+use crate::answer::{refuse_if, Answer, Refusal};
+use crate::registers::{self, Registers};
+
+pub const PAGE: u64 = 4_096;
+pub const MAPPING_LIMIT: usize = 64;
+pub const MEMORY_LIMIT: u128 = 1 << 30;
+/// Device addresses lie below this.
+pub const DEVICE_LIMIT: u128 = 1 << 48;
+/// Of a move and of a stream.
+pub const LENGTH_LIMIT: usize = 65_536;
+
+pub const READ: u64 = 1;
+pub const WRITE: u64 = 2;
+
+/// The mark of a written byte; every other mark means unwritten.
+pub const WRITTEN: u8 = 1;
+/// The mark that a fresh start and forget leave.
+pub const FORGOTTEN: u8 = 0;
+
+/// What the card uses (an IOVA).
+#[derive(Clone, Copy, Debug, PartialEq, Eq)]
+pub struct DeviceAddress(pub u64);
+
+/// What the host uses: bytes from the start of memory.
+#[derive(Clone, Copy, Debug, PartialEq, Eq)]
+pub struct MemoryAddress(pub u64);
+
+impl DeviceAddress {
+    /// As a whole number, for sums.
+    pub fn whole(self) -> u128 {
+        u128::from(self.0)
+    }
+
+    pub fn aligned(self) -> bool {
+        self.0.is_multiple_of(PAGE)
+    }
+}
+
+impl MemoryAddress {
+    /// As a whole number, for sums.
+    pub fn whole(self) -> u128 {
+        u128::from(self.0)
+    }
+
+    pub fn aligned(self) -> bool {
+        self.0.is_multiple_of(PAGE)
+    }
+}
+
+/// Device addresses from `first` to below `end`.
+#[derive(Clone, Copy, Debug, PartialEq, Eq)]
+pub struct DeviceRange {
+    pub first: u128,
+    pub end: u128,
+}
+
+impl DeviceRange {
+    pub fn new(device: DeviceAddress, size: u64) -> DeviceRange {
+        DeviceRange {
+            first: device.whole(),
+            end: device.whole() + u128::from(size),
+        }
+    }
+}
+
+#[derive(Clone, Copy, Debug, PartialEq, Eq)]
+pub struct Mapping {
+    pub memory: MemoryAddress,
+    pub device: DeviceAddress,
+    pub size: u64,
+    /// READ, WRITE or both.
+    pub rights: u64,
+}
+
+impl Mapping {
+    pub fn range(&self) -> DeviceRange {
+        DeviceRange::new(self.device, self.size)
+    }
+
+    pub fn memory_end(&self) -> u128 {
+        self.memory.whole() + u128::from(self.size)
+    }
+
+    pub fn holds(&self, address: u128) -> bool {
+        self.range().first <= address && address < self.range().end
+    }
+
+    /// Whether at least one device address is in both; neither may be empty.
+    pub fn shares_with(&self, other: DeviceRange) -> bool {
+        self.range().first < other.end && other.first < self.range().end
+    }
+
+    pub fn lies_inside(&self, other: DeviceRange) -> bool {
+        other.first <= self.range().first && self.range().end <= other.end
+    }
+
+    fn sound(&self, noted_length: u64) -> bool {
+        self.memory.aligned()
+            && self.device.aligned()
+            && self.size.is_multiple_of(PAGE)
+            && self.size > 0
+            && (1..=3).contains(&self.rights)
+            && self.range().end <= DEVICE_LIMIT
+            && self.memory_end() <= u128::from(noted_length)
+    }
+}
+
+/// The kept state.
+#[derive(Clone, Debug, PartialEq, Eq)]
+pub struct State {
+    /// The memory's length at the fresh start.
+    pub noted_length: u64,
+    /// By rising device address.
+    pub mappings: Vec<Mapping>,
+    pub running: bool,
+    pub registers: Registers,
+}
+
+impl State {
+    /// What a fresh start on `length` bytes leaves.
+    pub fn fresh(length: u64) -> State {
+        State {
+            noted_length: length,
+            mappings: Vec::new(),
+            running: false,
+            registers: registers::reset(),
+        }
+    }
+
+    pub fn sound(&self) -> bool {
+        u128::from(self.noted_length) <= MEMORY_LIMIT
+            && self.mappings.len() <= MAPPING_LIMIT
+            && self.mappings.iter().all(|m| m.sound(self.noted_length))
+            && self.rising_and_apart()
+            && registers::sound(&self.registers)
+    }
+
+    /// Each mapping ends at or below the next one's start: adjoining is apart. As none is empty,
+    /// they rise.
+    fn rising_and_apart(&self) -> bool {
+        self.mappings
+            .windows(2)
+            .all(|two| two[0].range().end <= two[1].range().first)
+    }
+
+    /// Check 1 of a call that takes no memory and marks.
+    pub fn check_sound(&self) -> Answer<()> {
+        refuse_if(!self.sound(), Refusal::BadBench)
+    }
+
+    /// Check 1 of a call that takes memory and marks.
+    pub fn check_bench(&self, memory: &[u8], marks: &[u8]) -> Answer<()> {
+        check_lengths(memory.len(), marks.len())?;
+        refuse_if(
+            memory.len() as u128 != u128::from(self.noted_length),
+            Refusal::BadBench,
+        )?;
+        self.check_sound()
+    }
+}
+
+/// The causes of refusal 1 that a fresh start knows, too.
+fn check_lengths(memory: usize, marks: usize) -> Answer<()> {
+    refuse_if(memory != marks, Refusal::BadBench)?;
+    refuse_if(memory as u128 > MEMORY_LIMIT, Refusal::BadBench)
+}
+
+/// Looks at nothing of the state that it replaces, and leaves memory bytes untouched.
+pub fn fresh_start(state: &mut State, memory: &[u8], marks: &mut [u8]) -> Answer<u64> {
+    check_lengths(memory.len(), marks.len())?;
+    for mark in marks.iter_mut() {
+        *mark = FORGOTTEN;
+    }
+    *state = State::fresh(memory.len() as u64);
+    Ok(0)
+}
+
+/// Just sets the running state, whatever it was.
+pub fn stop(state: &mut State) -> Answer<u64> {
+    state.check_sound()?;
+    state.running = false;
+    Ok(0)
+}
+
+/// Just sets the running state, whatever it was.
+pub fn start(state: &mut State) -> Answer<u64> {
+    state.check_sound()?;
+    state.running = true;
+    Ok(0)
+}
+
+#[cfg(test)]
+mod tests {
+    use super::*;
+    use crate::moves::{card_read, card_write, forget, host_load, host_store, look_up};
+    use crate::parts::{load_parts, save_parts};
+    use crate::registers::{read_register, set_register};
+    use crate::requests::request;
+
+    const BAD_BENCH: Answer<u64> = Err(crate::answer::Refused {
+        refusal: Refusal::BadBench,
+        place: 0,
+    });
+
+    fn mapping(memory: u64, device: u64, size: u64, rights: u64) -> Mapping {
+        Mapping {
+            memory: MemoryAddress(memory),
+            device: DeviceAddress(device),
+            size,
+            rights,
+        }
+    }
+
+    fn two_pages(mappings: Vec<Mapping>) -> State {
+        State {
+            mappings,
+            ..State::fresh(8_192)
+        }
+    }
+
+    fn unsound() -> State {
+        two_pages(vec![mapping(0, 0, 4_096, 0)])
+    }
+
+    /// Trap 1: every call tries 1 first, also where it uses no memory, would be refused for
+    /// another cause, or would have nothing to do.
+    #[test]
+    fn every_call_but_a_fresh_start_refuses_an_unsound_state() {
+        let before = unsound();
+        let mut state = unsound();
+        let (mut memory, mut marks) = (vec![7; 8_192], vec![1; 8_192]);
+        let buffer = &mut [0xa5; 64];
+        let (device, address) = (DeviceAddress(0), MemoryAddress(0));
+        let answers = [
+            request(&mut state, &memory, &marks, 0, 100, buffer),
+            request(&mut state, &memory, &marks, 0, 999, &mut []),
+            request(&mut state, &memory, &marks, 0, 112, &mut []),
+            request(&mut state, &memory, &marks, 1, 111, &mut []),
+            look_up(&state, device).map(|_| 0),
+            card_read(&state, &memory, &marks, device, buffer),
+            card_write(&state, &mut memory, &mut marks, device, &[]),
+            host_store(&state, &mut memory, &mut marks, address, &[9]),
+            host_load(&state, &memory, &marks, address, buffer),
+            forget(&state, &memory, &mut marks, address, u64::MAX),
+            set_register(&mut state, 0x103, 0, &[1]),
+            read_register(&state, 0x103, 0, buffer),
+            load_parts(&mut state, &[]),
+            save_parts(&state, buffer),
+            stop(&mut state),
+            start(&mut state),
+        ];
+        for (i, answer) in answers.iter().enumerate() {
+            assert_eq!(*answer, BAD_BENCH, "call {i}");
+        }
+        assert_eq!(state, before);
+        assert_eq!((memory, marks), (vec![7; 8_192], vec![1; 8_192]));
+        assert_eq!(*buffer, [0xa5; 64]);
+    }
+
+    /// Trap 2: all three lengths must agree.
+    #[test]
+    fn memory_marks_and_the_noted_length_must_agree() {
+        let state = State::fresh(8_192);
+        let bytes = vec![0; 8_193];
+        let lengths = [
+            (8_191, 8_192),
+            (8_192, 8_191),
+            (8_193, 8_193),
+            (0, 0),
+            (8_191, 8_191),
+        ];
+        for (memory, marks) in lengths {
+            let answer = state.check_bench(&bytes[..memory], &bytes[..marks]);
+            assert_eq!(
+                answer,
+                Err(Refusal::BadBench.into()),
+                "{memory} and {marks}"
+            );
+        }
+        assert_eq!(state.check_bench(&bytes[..8_192], &bytes[..8_192]), Ok(()));
+    }
+
+    /// 2^30 is allowed, one more is not; 0 is allowed.
+    #[test]
+    fn memory_has_at_most_2_to_the_30_bytes() {
+        let limit = 1 << 30;
+        assert_eq!(check_lengths(limit, limit), Ok(()));
+        assert_eq!(
+            check_lengths(limit + 1, limit + 1),
+            Err(Refusal::BadBench.into())
+        );
+        assert_eq!(check_lengths(0, 0), Ok(()));
+    }
+
+    /// Trap 3 and A-6.
+    #[test]
+    fn a_fresh_start_replaces_any_state_and_keeps_memory() {
+        let mut state = unsound();
+        state.running = true;
+        let memory = vec![7; 100];
+        let mut marks = vec![255; 100];
+        assert_eq!(fresh_start(&mut state, &memory, &mut marks), Ok(0));
+        assert_eq!(state, State::fresh(100));
+        assert!(!state.running);
+        assert_eq!(memory, vec![7; 100]);
+        assert_eq!(marks, vec![0; 100]);
+    }
+
+    #[test]
+    fn a_refused_fresh_start_changes_nothing() {
+        let mut state = unsound();
+        let mut marks = vec![1; 99];
+        assert_eq!(fresh_start(&mut state, &[7; 100], &mut marks), BAD_BENCH);
+        assert_eq!(state, unsound());
+        assert_eq!(marks, vec![1; 99]);
+    }
+
+    /// Trap 4 and A-8.
+    #[test]
+    fn a_mapping_that_map_would_refuse_makes_the_state_unsound() {
+        let wrong = [
+            ("rights 0", mapping(0, 0, 4_096, 0)),
+            ("rights 4", mapping(0, 0, 4_096, 4)),
+            ("empty", mapping(0, 0, 0, 3)),
+            ("memory address not aligned", mapping(1, 0, 4_096, 3)),
+            ("device address not aligned", mapping(0, 1, 4_096, 3)),
+            ("size not aligned", mapping(0, 0, 4_097, 3)),
+            ("past memory", mapping(4_096, 0, 8_192, 3)),
+            ("past 2^48", mapping(0, (1 << 48) - 4_096, 8_192, 3)),
+            (
+                "device sum of 2^64",
+                mapping(0, 0u64.wrapping_sub(4_096), 4_096, 3),
+            ),
+            (
+                "memory sum of 2^64",
+                mapping(0u64.wrapping_sub(4_096), 0, 4_096, 3),
+            ),
+        ];
+        for (name, entry) in wrong {
+            assert!(!two_pages(vec![entry]).sound(), "{name}");
+        }
+        assert!(two_pages(vec![mapping(4_096, (1 << 48) - 4_096, 4_096, 1)]).sound());
+    }
+
+    #[test]
+    fn mappings_must_rise_and_lie_apart_but_may_adjoin() {
+        let low = mapping(0, 0, 8_192, 3);
+        let high = mapping(0, 8_192, 4_096, 3);
+        let inner = mapping(0, 4_096, 4_096, 3);
+        assert!(two_pages(vec![low, high]).sound());
+        assert!(!two_pages(vec![high, low]).sound());
+        assert!(!two_pages(vec![low, inner]).sound());
+        assert!(!two_pages(vec![low, low]).sound());
+    }
+
+    /// Trap 5: 64 are sound, 65 are not.
+    #[test]
+    fn a_state_holds_at_most_64_mappings() {
+        let many = |count: u64| {
+            (0..count)
+                .map(|i| mapping(0, i * 4_096, 4_096, 3))
+                .collect()
+        };
+        assert!(two_pages(many(64)).sound());
+        assert!(!two_pages(many(65)).sound());
+    }
+
+    /// a condition of its own, also with an empty table.
+    #[test]
+    fn a_noted_length_over_2_to_the_30_is_unsound() {
+        assert!(State::fresh(1 << 30).sound());
+        assert!(!State::fresh((1 << 30) + 1).sound());
+    }
+
+    /// Trap 4, its last two: values of set registers count; status must be set.
+    #[test]
+    fn the_registers_of_a_sound_state_hold_acceptable_values() {
+        let with = |kind, selector, value: &[u8]| {
+            let mut state = State::fresh(0);
+            state.registers.insert((kind, selector), value.to_vec());
+            state
+        };
+        let mut queue = [0; 32];
+        queue[0] = 3;
+        assert!(!with(0x104, 0, &queue).sound(), "queue size 3");
+        queue[0] = 4;
+        assert!(with(0x104, 0, &queue).sound(), "queue size 4");
+        assert!(!with(0x104, 4, &queue).sound(), "no queue 4");
+        assert!(!with(0x101, 0, &[1, 0, 0, 0, 0, 0, 0, 0]).sound(), "bit 0");
+        assert!(!with(0x102, 16, &[0; 4]).sound(), "4 bytes for 2");
+        let mut state = State::fresh(0);
+        state.registers.remove(&(0x103, 0));
+        assert!(!state.sound(), "status not set");
+    }
+
+    /// no other check.
+    #[test]
+    fn a_stopped_card_may_be_stopped_and_a_running_one_started() {
+        let mut state = State::fresh(0);
+        assert_eq!(stop(&mut state), Ok(0));
+        assert!(!state.running);
+        assert_eq!(start(&mut state), Ok(0));
+        assert_eq!(start(&mut state), Ok(0));
+        assert!(state.running);
+    }
+}

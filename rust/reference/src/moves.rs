@@ -1,0 +1,404 @@
+//! Look-up, card read and write, host store and load, forget.
+
+use crate::answer::{refuse_if, Answer, Refusal};
+use crate::bench::{
+    DeviceAddress, MemoryAddress, State, DEVICE_LIMIT, FORGOTTEN, LENGTH_LIMIT, READ, WRITE,
+    WRITTEN,
+};
+
+/// The memory address and the rights that a device address has, if a mapping holds it.
+fn translate(state: &State, address: u128) -> Option<(MemoryAddress, u64)> {
+    let mapping = state.mappings.iter().find(|m| m.holds(address))?;
+    let distance = (address - mapping.device.whole()) as u64; // below the mapping's size
+    Some((MemoryAddress(mapping.memory.0 + distance), mapping.rights))
+}
+
+/// Takes no memory and marks, asks for no right, and gives 14 at 0.
+pub fn look_up(state: &State, device: DeviceAddress) -> Answer<(MemoryAddress, u64)> {
+    state.check_sound()?;
+    refuse_if(device.whole() >= DEVICE_LIMIT, Refusal::Range)?;
+    translate(state, device.whole()).ok_or(Refusal::Unmapped.into())
+}
+
+/// Where each byte of a card move lies in memory, or the fault of the first offset that has one:
+/// at each offset 14, then 15, then for a read (which lends the marks) 16.
+fn card_places(
+    state: &State,
+    device: DeviceAddress,
+    length: usize,
+    right: u64,
+    marks_to_read: Option<&[u8]>,
+) -> Answer<Vec<usize>> {
+    refuse_if(length > LENGTH_LIMIT, Refusal::TooLong)?;
+    refuse_if(
+        device.whole() + length as u128 > DEVICE_LIMIT,
+        Refusal::Range,
+    )?;
+    let mut places = Vec::new();
+    for offset in 0..length as u64 {
+        let address = device.whole() + u128::from(offset);
+        let (memory, rights) = translate(state, address).ok_or(Refusal::Unmapped.at(offset))?;
+        refuse_if(rights & right == 0, Refusal::NoRight.at(offset))?;
+        if let Some(marks) = marks_to_read {
+            let mark = marks[memory.0 as usize];
+            refuse_if(mark != WRITTEN, Refusal::Unwritten.at(offset))?;
+        }
+        places.push(memory.0 as usize);
+    }
+    Ok(places)
+}
+
+pub fn card_read(
+    state: &State,
+    memory: &[u8],
+    marks: &[u8],
+    device: DeviceAddress,
+    buffer: &mut [u8],
+) -> Answer<u64> {
+    state.check_bench(memory, marks)?;
+    let places = card_places(state, device, buffer.len(), READ, Some(marks))?;
+    for (offset, place) in places.into_iter().enumerate() {
+        buffer[offset] = memory[place];
+    }
+    Ok(0)
+}
+
+/// Stores in offset order, so that where two mappings show one byte the later offset wins.
+pub fn card_write(
+    state: &State,
+    memory: &mut [u8],
+    marks: &mut [u8],
+    device: DeviceAddress,
+    bytes: &[u8],
+) -> Answer<u64> {
+    state.check_bench(memory, marks)?;
+    let places = card_places(state, device, bytes.len(), WRITE, None)?;
+    for (offset, place) in places.into_iter().enumerate() {
+        memory[place] = bytes[offset];
+        marks[place] = WRITTEN;
+    }
+    Ok(0)
+}
+
+/// Check 9 of the calls with a memory address.
+fn check_host_range(memory: &[u8], address: MemoryAddress, length: u64) -> Answer<()> {
+    refuse_if(
+        address.whole() + u128::from(length) > memory.len() as u128,
+        Refusal::Range,
+    )
+}
+
+pub fn host_store(
+    state: &State,
+    memory: &mut [u8],
+    marks: &mut [u8],
+    address: MemoryAddress,
+    bytes: &[u8],
+) -> Answer<u64> {
+    state.check_bench(memory, marks)?;
+    refuse_if(bytes.len() > LENGTH_LIMIT, Refusal::TooLong)?;
+    check_host_range(memory, address, bytes.len() as u64)?;
+    for (offset, byte) in bytes.iter().enumerate() {
+        memory[address.0 as usize + offset] = *byte;
+        marks[address.0 as usize + offset] = WRITTEN;
+    }
+    Ok(0)
+}
+
+pub fn host_load(
+    state: &State,
+    memory: &[u8],
+    marks: &[u8],
+    address: MemoryAddress,
+    buffer: &mut [u8],
+) -> Answer<u64> {
+    state.check_bench(memory, marks)?;
+    refuse_if(buffer.len() > LENGTH_LIMIT, Refusal::TooLong)?;
+    check_host_range(memory, address, buffer.len() as u64)?;
+    for offset in 0..buffer.len() {
+        let mark = marks[address.0 as usize + offset];
+        refuse_if(mark != WRITTEN, Refusal::Unwritten.at(offset as u64))?;
+    }
+    for (offset, byte) in buffer.iter_mut().enumerate() {
+        *byte = memory[address.0 as usize + offset];
+    }
+    Ok(0)
+}
+
+/// Any length: it is no move, so 13 is not tried. The bytes stay.
+pub fn forget(
+    state: &State,
+    memory: &[u8],
+    marks: &mut [u8],
+    address: MemoryAddress,
+    length: u64,
+) -> Answer<u64> {
+    state.check_bench(memory, marks)?;
+    check_host_range(memory, address, length)?;
+    for offset in 0..length as usize {
+        marks[address.0 as usize + offset] = FORGOTTEN;
+    }
+    Ok(0)
+}
+
+#[cfg(test)]
+mod tests {
+    use super::*;
+    use crate::answer::Refused;
+    use crate::bench::Mapping;
+
+    const LIMIT: u64 = 1 << 48;
+
+    struct Bench {
+        state: State,
+        memory: Vec<u8>,
+        marks: Vec<u8>,
+    }
+
+    /// Memory of garbage with mappings: memory address, device address, size, rights.
+    fn bench(length: usize, mappings: &[(u64, u64, u64, u64)]) -> Bench {
+        let mut state = State::fresh(length as u64);
+        for &(memory, device, size, rights) in mappings {
+            state.mappings.push(Mapping {
+                memory: MemoryAddress(memory),
+                device: DeviceAddress(device),
+                size,
+                rights,
+            });
+        }
+        assert!(state.sound());
+        Bench {
+            state,
+            memory: vec![0xa5; length],
+            marks: vec![0; length],
+        }
+    }
+
+    impl Bench {
+        fn card_read(&self, device: u64, length: usize) -> Answer<Vec<u8>> {
+            let mut buffer = vec![0x5a; length];
+            let device = DeviceAddress(device);
+            match card_read(&self.state, &self.memory, &self.marks, device, &mut buffer) {
+                Ok(result) => {
+                    assert_eq!(result, 0);
+                    Ok(buffer)
+                }
+                Err(refused) => {
+                    assert_eq!(buffer, vec![0x5a; length], "a refused read writes nothing");
+                    Err(refused)
+                }
+            }
+        }
+
+        fn card_write(&mut self, device: u64, bytes: &[u8]) -> Answer<u64> {
+            let device = DeviceAddress(device);
+            card_write(
+                &self.state,
+                &mut self.memory,
+                &mut self.marks,
+                device,
+                bytes,
+            )
+        }
+
+        fn host_store(&mut self, address: u64, bytes: &[u8]) -> Answer<u64> {
+            let address = MemoryAddress(address);
+            host_store(
+                &self.state,
+                &mut self.memory,
+                &mut self.marks,
+                address,
+                bytes,
+            )
+        }
+
+        fn host_load(&self, address: u64, length: usize) -> Answer<Vec<u8>> {
+            let mut buffer = vec![0x5a; length];
+            let address = MemoryAddress(address);
+            host_load(&self.state, &self.memory, &self.marks, address, &mut buffer)?;
+            Ok(buffer)
+        }
+
+        fn forget(&mut self, address: u64, length: u64) -> Answer<u64> {
+            let address = MemoryAddress(address);
+            forget(&self.state, &self.memory, &mut self.marks, address, length)
+        }
+    }
+
+    fn refused<T>(refusal: Refusal, place: u64) -> Answer<T> {
+        Err(Refused { refusal, place })
+    }
+
+    /// rights as a number; no right is asked for.
+    #[test]
+    fn look_up_gives_memory_address_and_rights() {
+        let state = bench(8_192, &[(4_096, 0, 4_096, 2), (0, LIMIT - 4_096, 4_096, 1)]).state;
+        let at = |device| look_up(&state, DeviceAddress(device));
+        assert_eq!(at(0), Ok((MemoryAddress(4_096), 2)));
+        assert_eq!(at(4_095), Ok((MemoryAddress(8_191), 2)));
+        assert_eq!(at(4_096), refused(Refusal::Unmapped, 0));
+        assert_eq!(at(LIMIT - 1), Ok((MemoryAddress(4_095), 1)));
+        assert_eq!(at(LIMIT), refused(Refusal::Range, 0));
+        assert_eq!(at(u64::MAX), refused(Refusal::Range, 0));
+    }
+
+    /// The worked value: 16 at 1.
+    #[test]
+    fn a_read_stops_at_the_first_unwritten_byte() {
+        let mut bench = bench(4_096, &[(0, 0, 4_096, 3)]);
+        assert_eq!(bench.host_store(0, &[7]), Ok(0));
+        assert_eq!(bench.card_read(0, 2), refused(Refusal::Unwritten, 1));
+        assert_eq!(bench.card_read(0, 1), Ok(vec![7]));
+    }
+
+    /// A-28 and trap 20: the first offset decides, then 14, 15, 16 at that offset.
+    #[test]
+    fn the_first_faulty_offset_decides_whatever_the_fault() {
+        // Page 0 readable, page 1 only writable, page 2 not mapped.
+        let mut bench = bench(8_192, &[(0, 0, 4_096, 1), (4_096, 4_096, 4_096, 2)]);
+        assert_eq!(bench.host_store(4_094, &[1]), Ok(0));
+        assert_eq!(bench.card_read(4_094, 8), refused(Refusal::Unwritten, 1));
+        assert_eq!(bench.host_store(4_095, &[2]), Ok(0));
+        assert_eq!(bench.card_read(4_094, 8), refused(Refusal::NoRight, 2));
+        assert_eq!(bench.card_read(8_190, 8), refused(Refusal::NoRight, 0));
+        assert_eq!(
+            bench.card_write(8_190, &[0; 8]),
+            refused(Refusal::Unmapped, 2)
+        );
+        assert_eq!(
+            bench.card_write(4_095, &[0; 8]),
+            refused(Refusal::NoRight, 0)
+        );
+        assert_eq!(bench.card_read(4_094, 2), Ok(vec![1, 2]));
+    }
+
+    #[test]
+    fn a_write_needs_no_right_to_read_and_no_written_bytes() {
+        let mut bench = bench(4_096, &[(0, 0, 4_096, 2)]);
+        assert_eq!(bench.card_write(5, &[1, 2]), Ok(0));
+        assert_eq!(bench.host_load(5, 2), Ok(vec![1, 2]));
+        assert_eq!(bench.card_read(5, 2), refused(Refusal::NoRight, 0));
+    }
+
+    /// Trap 19 and the paper's error 3.
+    #[test]
+    fn a_refused_write_changes_no_byte_and_no_mark() {
+        let mut bench = bench(4_096, &[(0, 0, 4_096, 3)]);
+        assert_eq!(
+            bench.card_write(4_095, &[1, 2]),
+            refused(Refusal::Unmapped, 1)
+        );
+        assert_eq!(bench.memory, vec![0xa5; 4_096]);
+        assert_eq!(bench.marks, vec![0; 4_096]);
+    }
+
+    #[test]
+    fn a_move_may_cross_adjoining_mappings() {
+        let mut bench = bench(8_192, &[(4_096, 0, 4_096, 3), (0, 4_096, 4_096, 3)]);
+        assert_eq!(bench.card_write(4_094, &[1, 2, 3, 4]), Ok(0));
+        assert_eq!(bench.host_load(8_190, 2), Ok(vec![1, 2]));
+        assert_eq!(bench.host_load(0, 2), Ok(vec![3, 4]));
+        assert_eq!(bench.card_read(4_094, 4), Ok(vec![1, 2, 3, 4]));
+    }
+
+    /// Trap 21.
+    #[test]
+    fn where_two_mappings_show_one_byte_the_later_offset_wins() {
+        let mut bench = bench(4_096, &[(0, 0, 4_096, 3), (0, 4_096, 4_096, 3)]);
+        let mut bytes = vec![1; 4_096];
+        bytes.extend([2, 3]);
+        assert_eq!(bench.card_write(0, &bytes), Ok(0));
+        assert_eq!(bench.memory[..3], [2, 3, 1]);
+        let mut read = vec![2, 3];
+        read.extend(vec![1; 4_094]);
+        read.extend([2, 3]);
+        assert_eq!(bench.card_read(0, 4_098), Ok(read));
+    }
+
+    /// Traps 22 and 23.
+    #[test]
+    fn too_long_comes_before_range_and_range_before_unmapped() {
+        let mut bench = bench(131_072, &[(0, 0, 131_072, 3)]);
+        let long = vec![3; 65_537];
+        assert_eq!(bench.card_read(LIMIT, 65_537), refused(Refusal::TooLong, 0));
+        assert_eq!(bench.card_write(LIMIT, &long), refused(Refusal::TooLong, 0));
+        assert_eq!(
+            bench.host_store(131_072, &long),
+            refused(Refusal::TooLong, 0)
+        );
+        assert_eq!(
+            bench.host_load(131_072, 65_537),
+            refused(Refusal::TooLong, 0)
+        );
+        assert_eq!(bench.card_write(0, &long[..65_536]), Ok(0));
+        assert_eq!(bench.card_read(0, 65_536), Ok(long[..65_536].to_vec()));
+        assert_eq!(bench.host_load(0, 65_536), Ok(long[..65_536].to_vec()));
+        assert_eq!(bench.host_store(65_536, &long[..65_536]), Ok(0));
+        assert_eq!(bench.card_read(LIMIT - 1, 2), refused(Refusal::Range, 0));
+        assert_eq!(bench.card_read(LIMIT - 2, 2), refused(Refusal::Unmapped, 0));
+        assert_eq!(bench.card_read(u64::MAX, 2), refused(Refusal::Range, 0));
+    }
+
+    /// no mapping is needed.
+    #[test]
+    fn length_0_is_accepted_where_the_range_is_good() {
+        let mut bench = bench(100, &[]);
+        assert_eq!(bench.card_read(LIMIT, 0), Ok(vec![]));
+        assert_eq!(bench.card_read(LIMIT + 1, 0), refused(Refusal::Range, 0));
+        assert_eq!(bench.card_write(LIMIT, &[]), Ok(0));
+        assert_eq!(bench.card_write(LIMIT + 1, &[]), refused(Refusal::Range, 0));
+        assert_eq!(bench.host_store(100, &[]), Ok(0));
+        assert_eq!(bench.host_store(101, &[]), refused(Refusal::Range, 0));
+        assert_eq!(bench.host_load(100, 0), Ok(vec![]));
+        assert_eq!(bench.host_load(101, 0), refused(Refusal::Range, 0));
+        assert_eq!(bench.forget(100, 0), Ok(0));
+        assert_eq!(bench.forget(101, 0), refused(Refusal::Range, 0));
+        assert_eq!(bench.marks, vec![0; 100]);
+    }
+
+    /// the offset inside the move, not the memory address.
+    #[test]
+    fn a_host_loads_fault_is_an_offset() {
+        let mut bench = bench(100, &[]);
+        assert_eq!(bench.host_store(50, &[1, 2, 3]), Ok(0));
+        assert_eq!(bench.host_load(50, 5), refused(Refusal::Unwritten, 3));
+        assert_eq!(bench.host_load(98, 3), refused(Refusal::Range, 0));
+        assert_eq!(bench.host_store(98, &[0; 3]), refused(Refusal::Range, 0));
+        assert_eq!(bench.host_load(u64::MAX, 1), refused(Refusal::Range, 0));
+    }
+
+    /// Trap 24.
+    #[test]
+    fn forget_takes_any_length_and_keeps_the_bytes() {
+        let mut bench = bench(100_000, &[]);
+        assert_eq!(bench.host_store(10, &[7; 4]), Ok(0));
+        assert_eq!(bench.forget(11, u64::MAX), refused(Refusal::Range, 0));
+        assert_eq!(bench.forget(u64::MAX, u64::MAX), refused(Refusal::Range, 0));
+        assert_eq!(bench.host_load(10, 4), Ok(vec![7; 4]));
+        assert_eq!(bench.forget(12, 99_988), Ok(0));
+        assert_eq!(bench.host_load(10, 4), refused(Refusal::Unwritten, 2));
+        assert_eq!(bench.memory[10..14], [7; 4]);
+    }
+
+    /// only mark 1 means written.
+    #[test]
+    fn marks_other_than_1_mean_unwritten() {
+        let mut bench = bench(4_096, &[(0, 0, 4_096, 3)]);
+        bench.marks[..3].copy_from_slice(&[1, 2, 255]);
+        assert_eq!(bench.card_read(0, 2), refused(Refusal::Unwritten, 1));
+        assert_eq!(bench.host_load(2, 1), refused(Refusal::Unwritten, 0));
+        assert_eq!(bench.forget(1, 1), Ok(0));
+        assert_eq!(bench.host_store(2, &[9]), Ok(0));
+        assert_eq!(bench.marks[..4], [1, 0, 1, 0]);
+    }
+
+    #[test]
+    fn moves_do_not_look_at_the_running_state() {
+        let mut bench = bench(4_096, &[(0, 0, 4_096, 3)]);
+        bench.state.running = true;
+        assert_eq!(bench.card_write(0, &[1]), Ok(0));
+        assert_eq!(bench.host_store(1, &[2]), Ok(0));
+        assert_eq!(bench.card_read(0, 2), Ok(vec![1, 2]));
+        assert_eq!(bench.host_load(0, 2), Ok(vec![1, 2]));
+    }
+}

@@ -1,0 +1,577 @@
+//! The requests on the container and on the card.
+
+use crate::answer::{refuse_if, Answer, Refusal};
+use crate::bench::{
+    DeviceAddress, DeviceRange, Mapping, MemoryAddress, State, DEVICE_LIMIT, MAPPING_LIMIT, PAGE,
+};
+use crate::bytes::{number_at, put_number};
+use crate::registers;
+
+pub const CONTAINER: u64 = 0;
+pub const DEVICE: u64 = 1;
+
+/// A line of the paper's table of requests.
+#[derive(Clone, Copy, Debug, PartialEq, Eq)]
+pub struct Listed {
+    pub target: u64,
+    pub number: u64,
+    pub size: usize,
+    /// Whether the first field is argsz, so that check 4 is tried.
+    pub argsz: bool,
+    /// Whether an accepted request writes output fields to its buffer.
+    pub writes: bool,
+}
+
+const fn listed_as(target: u64, number: u64, size: usize, argsz: bool, writes: bool) -> Listed {
+    Listed {
+        target,
+        number,
+        size,
+        argsz,
+        writes,
+    }
+}
+
+#[rustfmt::skip]
+const LISTED: [Listed; 9] = [
+    listed_as(CONTAINER, 100,  0, false, false),
+    listed_as(CONTAINER, 101,  4, false, false),
+    listed_as(CONTAINER, 112, 16, true,  true),
+    listed_as(CONTAINER, 113, 32, true,  false),
+    listed_as(CONTAINER, 114, 24, true,  true),
+    listed_as(DEVICE,    107, 16, true,  true),
+    listed_as(DEVICE,    108, 32, true,  true),
+    listed_as(DEVICE,    109, 16, true,  true),
+    listed_as(DEVICE,    111,  0, false, false),
+];
+
+/// The request with this target and number, if it is listed.
+pub fn listed(target: u64, number: u64) -> Option<Listed> {
+    LISTED
+        .into_iter()
+        .find(|line| line.target == target && line.number == number)
+}
+
+/// One request: checks 1, 2, 3, 4, then its own.
+pub fn request(
+    state: &mut State,
+    memory: &[u8],
+    marks: &[u8],
+    target: u64,
+    number: u64,
+    buffer: &mut [u8],
+) -> Answer<u64> {
+    state.check_bench(memory, marks)?;
+    let line = listed(target, number).ok_or(Refusal::NoSuchRequest)?;
+    refuse_if(buffer.len() < line.size, Refusal::Short)?;
+    if line.argsz {
+        check_argsz(line.size, buffer)?;
+    }
+    match (target, number) {
+        (CONTAINER, 100) => Ok(0),
+        (CONTAINER, 101) => Ok(check_extension(buffer)),
+        (CONTAINER, 112) => iommu_info(buffer),
+        (CONTAINER, 113) => map(state, buffer),
+        (CONTAINER, 114) => unmap(state, buffer),
+        (DEVICE, 107) => device_info(buffer),
+        (DEVICE, 108) => region_info(buffer),
+        (DEVICE, 109) => interrupt_info(buffer),
+        (DEVICE, 111) => reset_device(state),
+        _ => unreachable!("every listed request stands above"),
+    }
+}
+
+/// Check 4: argsz below the size or above the buffer's length.
+fn check_argsz(size: usize, buffer: &[u8]) -> Answer<()> {
+    let argsz = u128::from(number_at(buffer, 0, 4));
+    refuse_if(
+        argsz < size as u128 || argsz > buffer.len() as u128,
+        Refusal::ArgSize,
+    )
+}
+
+/// 1 for Type1v2 (3) alone.
+fn check_extension(buffer: &[u8]) -> u64 {
+    if number_at(buffer, 0, 4) == 3 {
+        1
+    } else {
+        0
+    }
+}
+
+fn iommu_info(buffer: &mut [u8]) -> Answer<u64> {
+    put_number(buffer, 4, 4, 1); // flags
+    put_number(buffer, 8, 8, PAGE); // page bitmap
+    Ok(0)
+}
+
+/// argsz 0..4, flags 4..8, memory address 8..16, device address 16..24, size 24..32.
+fn map(state: &mut State, buffer: &[u8]) -> Answer<u64> {
+    let new = Mapping {
+        rights: number_at(buffer, 4, 4),
+        memory: MemoryAddress(number_at(buffer, 8, 8)),
+        device: DeviceAddress(number_at(buffer, 16, 8)),
+        size: number_at(buffer, 24, 8),
+    };
+    check_map(state, &new)?;
+    let place = count_below(&state.mappings, new.device);
+    state.mappings.insert(place, new);
+    Ok(0)
+}
+
+fn check_map(state: &State, new: &Mapping) -> Answer<()> {
+    refuse_if(!(1..=3).contains(&new.rights), Refusal::Flags)?;
+    refuse_if(new.size == 0, Refusal::Empty)?;
+    refuse_if(
+        !new.memory.aligned() || !new.device.aligned() || !new.size.is_multiple_of(PAGE),
+        Refusal::Unaligned,
+    )?;
+    refuse_if(
+        new.range().end > DEVICE_LIMIT || new.memory_end() > u128::from(state.noted_length),
+        Refusal::Range,
+    )?;
+    refuse_if(
+        state.mappings.iter().any(|m| m.shares_with(new.range())),
+        Refusal::Overlap,
+    )?;
+    refuse_if(state.mappings.len() == MAPPING_LIMIT, Refusal::NoRoom)
+}
+
+/// How many mappings stand before a device address.
+fn count_below(mappings: &[Mapping], device: DeviceAddress) -> usize {
+    mappings.iter().filter(|m| m.device.0 < device.0).count()
+}
+
+/// argsz 0..4, flags 4..8, device address 8..16, size 16..24. The sum of the removed sizes goes
+/// to the size field; the result is 0.
+fn unmap(state: &mut State, buffer: &mut [u8]) -> Answer<u64> {
+    let flags = number_at(buffer, 4, 4);
+    let device = DeviceAddress(number_at(buffer, 8, 8));
+    let size = number_at(buffer, 16, 8);
+    let range = DeviceRange::new(device, size);
+    refuse_if(flags != 0, Refusal::Flags)?;
+    refuse_if(size == 0, Refusal::Empty)?;
+    refuse_if(
+        !device.aligned() || !size.is_multiple_of(PAGE),
+        Refusal::Unaligned,
+    )?;
+    refuse_if(range.end > DEVICE_LIMIT, Refusal::Range)?;
+    refuse_if(state.mappings.iter().any(|m| cuts(range, m)), Refusal::Cuts)?;
+    // The mappings inside lie apart below 2^48, so the sum of their sizes is at most 2^48.
+    let inside = state.mappings.iter().filter(|m| m.lies_inside(range));
+    let removed = inside.map(|m| m.size).sum();
+    state.mappings.retain(|m| !m.lies_inside(range));
+    put_number(buffer, 16, 8, removed);
+    Ok(0)
+}
+
+/// Whether the range holds some but not all of a mapping.
+fn cuts(range: DeviceRange, mapping: &Mapping) -> bool {
+    mapping.shares_with(range) && !mapping.lies_inside(range)
+}
+
+fn device_info(buffer: &mut [u8]) -> Answer<u64> {
+    put_number(buffer, 4, 4, 3); // flags
+    put_number(buffer, 8, 4, 9); // regions
+    put_number(buffer, 12, 4, 4); // interrupts
+    Ok(0)
+}
+
+/// Flags on entry are stale: only argsz and the index at byte 8 are looked at.
+fn region_info(buffer: &mut [u8]) -> Answer<u64> {
+    let index = number_at(buffer, 8, 4);
+    let (size, flags) = match index {
+        0 => (0x4000, 7),
+        7 => (0x100, 3),
+        1..=6 | 8 => (0, 0),
+        _ => return Err(Refusal::Index.into()),
+    };
+    put_number(buffer, 4, 4, flags);
+    put_number(buffer, 12, 4, 0); // reserved
+    put_number(buffer, 16, 8, size);
+    put_number(buffer, 24, 8, index << 40); // at most 8 x 2^40
+    Ok(0)
+}
+
+fn interrupt_info(buffer: &mut [u8]) -> Answer<u64> {
+    let (count, flags) = match number_at(buffer, 8, 4) {
+        0 => (1, 7),
+        1 => (8, 9),
+        2 => (16, 9),
+        3 => (0, 0),
+        _ => return Err(Refusal::Index.into()),
+    };
+    put_number(buffer, 4, 4, flags);
+    put_number(buffer, 12, 4, count);
+    Ok(0)
+}
+
+/// Resets the registers; the running state, the table and marks stay.
+fn reset_device(state: &mut State) -> Answer<u64> {
+    state.registers = registers::reset();
+    Ok(0)
+}
+
+#[cfg(test)]
+mod tests {
+    use super::*;
+    use crate::registers::set_register;
+
+    const GARBAGE: u8 = 0xa5;
+
+    fn refused(refusal: Refusal) -> Answer<u64> {
+        Err(refusal.into())
+    }
+
+    /// A request on a sound bench, whose memory is not looked at.
+    fn ask(state: &mut State, target: u64, number: u64, buffer: &mut [u8]) -> Answer<u64> {
+        let bytes = vec![0; state.noted_length as usize];
+        request(state, &bytes, &bytes, target, number, buffer)
+    }
+
+    /// A buffer of garbage with these fields: offset, width, number.
+    fn buffer(length: usize, fields: &[(usize, usize, u64)]) -> Vec<u8> {
+        let mut buffer = vec![GARBAGE; length];
+        for &(offset, width, number) in fields {
+            put_number(&mut buffer, offset, width, number);
+        }
+        buffer
+    }
+
+    fn map(state: &mut State, flags: u64, memory: u64, device: u64, size: u64) -> Answer<u64> {
+        let fields = [(0, 4, 32), (4, 4, flags), (8, 8, memory), (16, 8, device)];
+        let mut buffer = buffer(32, &fields);
+        put_number(&mut buffer, 24, 8, size);
+        let before = buffer.clone();
+        let answer = ask(state, CONTAINER, 113, &mut buffer);
+        assert_eq!(buffer, before, "map has no output");
+        answer
+    }
+
+    /// The number left in the size field.
+    fn unmap(state: &mut State, flags: u64, device: u64, size: u64) -> Answer<u64> {
+        let fields = [(0, 4, 24), (4, 4, flags), (8, 8, device), (16, 8, size)];
+        let mut buffer = buffer(24, &fields);
+        let result = ask(state, CONTAINER, 114, &mut buffer)?;
+        assert_eq!(result, 0, "the sum is in the size field alone");
+        assert_eq!(buffer[..16], self::buffer(24, &fields)[..16]);
+        Ok(number_at(&buffer, 16, 8))
+    }
+
+    fn pages(count: u64) -> State {
+        State::fresh(count * 4_096)
+    }
+
+    fn held(state: &State) -> Vec<u64> {
+        state.mappings.iter().map(|m| m.device.0).collect()
+    }
+
+    /// Trap 6: the header gives one number to several requests.
+    #[test]
+    fn target_and_number_choose_the_request() {
+        let mut state = pages(1);
+        let on_container = [99, 102, 107, 108, 109, 110, 111, 115, 116, 0x1_0000_0064];
+        let on_device = [100, 101, 106, 110, 112, 113, 114, 0x1_0000_006b];
+        for number in on_container {
+            let answer = ask(&mut state, CONTAINER, number, &mut buffer(64, &[]));
+            assert_eq!(answer, refused(Refusal::NoSuchRequest), "{number}");
+        }
+        for number in on_device {
+            let answer = ask(&mut state, DEVICE, number, &mut buffer(64, &[]));
+            assert_eq!(answer, refused(Refusal::NoSuchRequest), "{number}");
+        }
+        let answer = ask(&mut state, 2, 107, &mut buffer(64, &[]));
+        assert_eq!(answer, refused(Refusal::NoSuchRequest));
+    }
+
+    /// 2 comes before 3.
+    #[test]
+    fn an_unlisted_request_is_refused_as_such_with_an_empty_buffer() {
+        let answer = ask(&mut pages(1), DEVICE, 113, &mut []);
+        assert_eq!(answer, refused(Refusal::NoSuchRequest));
+    }
+
+    #[test]
+    fn short_before_argsz_and_argsz_within_size_and_buffer() {
+        let mut state = pages(1);
+        let with = |length, argsz| buffer(length, &[(0, 4, argsz)]);
+        let mut info = |mut buffer: Vec<u8>| ask(&mut state, DEVICE, 107, &mut buffer);
+        assert_eq!(info(with(15, 0)), refused(Refusal::Short));
+        assert_eq!(info(with(16, 15)), refused(Refusal::ArgSize));
+        assert_eq!(info(with(16, 16)), Ok(0));
+        assert_eq!(info(with(16, 17)), refused(Refusal::ArgSize));
+        assert_eq!(info(with(20, 20)), Ok(0));
+        assert_eq!(info(with(20, 21)), refused(Refusal::ArgSize));
+        assert_eq!(info(with(20, 0x1_0000 + 16)), refused(Refusal::ArgSize));
+    }
+
+    ///
+    #[test]
+    fn container_100_and_101() {
+        let mut state = pages(1);
+        assert_eq!(ask(&mut state, CONTAINER, 100, &mut []), Ok(0));
+        let mut extension = |number, length| {
+            let mut buffer = buffer(length, &[(0, 4, number)]);
+            ask(&mut state, CONTAINER, 101, &mut buffer)
+        };
+        assert_eq!(extension(3, 4), Ok(1));
+        assert_eq!(extension(3, 9), Ok(1));
+        assert_eq!(extension(1, 4), Ok(0));
+        assert_eq!(extension(0x103, 4), Ok(0));
+        assert_eq!(extension(0x0300_0000, 4), Ok(0));
+        assert_eq!(
+            ask(&mut state, CONTAINER, 101, &mut [3, 0, 0]),
+            refused(Refusal::Short)
+        );
+    }
+
+    /// Traps 8 and 10: stale flags, zeroed reserved bytes, nothing past the size.
+    #[test]
+    fn information_writes_its_output_fields_and_nothing_else() {
+        let mut state = pages(1);
+        type Fields = &'static [(usize, usize, u64)];
+        let cases: [(u64, u64, usize, Fields); 4] = [
+            (CONTAINER, 112, 16, &[(4, 4, 1), (8, 8, 4_096)]),
+            (DEVICE, 107, 16, &[(4, 4, 3), (8, 4, 9), (12, 4, 4)]),
+            (
+                DEVICE,
+                108,
+                32,
+                &[(4, 4, 3), (12, 4, 0), (16, 8, 0x100), (24, 8, 7 << 40)],
+            ),
+            (DEVICE, 109, 16, &[(4, 4, 9), (12, 4, 8)]),
+        ];
+        for (target, number, size, output) in cases {
+            let index = if number == 108 { 7 } else { 1 };
+            let argsz = size as u64 + 8;
+            let mut asked = buffer(size + 9, &[(0, 4, argsz), (8, 4, index)]);
+            let mut expected = asked.clone();
+            for &(offset, width, value) in output {
+                put_number(&mut expected, offset, width, value);
+            }
+            assert_eq!(ask(&mut state, target, number, &mut asked), Ok(0));
+            assert_eq!(asked, expected, "{number}");
+        }
+    }
+
+    /// The worked value: region 7, argsz 32.
+    #[test]
+    fn region_7_byte_by_byte() {
+        let mut buffer = buffer(32, &[(0, 4, 32), (8, 4, 7)]);
+        assert_eq!(ask(&mut pages(2), DEVICE, 108, &mut buffer), Ok(0));
+        assert_eq!(
+            buffer,
+            [
+                0x20, 0, 0, 0, 3, 0, 0, 0, 7, 0, 0, 0, 0, 0, 0, 0, // argsz to reserved
+                0, 1, 0, 0, 0, 0, 0, 0, // size
+                0, 0, 0, 0, 0, 7, 0, 0, // offset
+            ]
+        );
+    }
+
+    /// Traps 9, 11 and 12.
+    #[test]
+    fn regions_0_to_8_and_interrupts_0_to_3_exist() {
+        let mut state = pages(1);
+        for index in 0..9 {
+            let mut buffer = buffer(32, &[(0, 4, 32), (8, 4, index)]);
+            assert_eq!(ask(&mut state, DEVICE, 108, &mut buffer), Ok(0));
+            let (flags, size) = match index {
+                0 => (7, 0x4000),
+                7 => (3, 0x100),
+                _ => (0, 0),
+            };
+            assert_eq!(number_at(&buffer, 4, 4), flags, "{index}");
+            assert_eq!(number_at(&buffer, 16, 8), size, "{index}");
+            assert_eq!(number_at(&buffer, 24, 8), index << 40, "{index}");
+        }
+        let interrupts = [(7, 1), (9, 8), (9, 16), (0, 0)];
+        for (index, (flags, count)) in interrupts.into_iter().enumerate() {
+            let mut buffer = buffer(16, &[(0, 4, 16), (8, 4, index as u64)]);
+            assert_eq!(ask(&mut state, DEVICE, 109, &mut buffer), Ok(0));
+            assert_eq!(number_at(&buffer, 4, 4), flags, "{index}");
+            assert_eq!(number_at(&buffer, 12, 4), count, "{index}");
+        }
+        for (number, index) in [(108, 9), (108, 0x107), (109, 4), (109, 0x0100_0000)] {
+            let mut asked = buffer(32, &[(0, 4, 32), (8, 4, index)]);
+            let before = asked.clone();
+            let answer = ask(&mut state, DEVICE, number, &mut asked);
+            assert_eq!(answer, refused(Refusal::Index), "{number}, {index}");
+            assert_eq!(asked, before, "{number}, {index}");
+        }
+    }
+
+    /// Each line breaks one rule more than the line before it breaks, from the last check on.
+    #[test]
+    fn maps_checks_run_in_the_papers_order() {
+        let mut state = pages(2);
+        for i in 0..64 {
+            assert_eq!(map(&mut state, 3, 0, 0x10_0000 + i * 4_096, 4_096), Ok(0));
+        }
+        let overlapping = 0x10_0000;
+        let past = 0u64.wrapping_sub(4_096);
+        assert_eq!(map(&mut state, 1, 0, 0, 4_096), refused(Refusal::NoRoom));
+        assert_eq!(
+            map(&mut state, 1, 0, overlapping, 4_096),
+            refused(Refusal::Overlap)
+        );
+        assert_eq!(
+            map(&mut state, 1, 4_096, overlapping, 8_192),
+            refused(Refusal::Range)
+        );
+        assert_eq!(map(&mut state, 1, 0, past, 4_096), refused(Refusal::Range));
+        for (memory, device, size) in [(1, past, 4_096), (0, past + 1, 4_096), (0, past, 4_095)] {
+            assert_eq!(
+                map(&mut state, 1, memory, device, size),
+                refused(Refusal::Unaligned)
+            );
+        }
+        assert_eq!(map(&mut state, 1, 1, past, 0), refused(Refusal::Empty));
+        assert_eq!(map(&mut state, 1, 0, 1, 0), refused(Refusal::Empty));
+        for flags in [0, 4, 5, 7, 0x101, 0x8000_0001] {
+            assert_eq!(map(&mut state, flags, 0, 1, 0), refused(Refusal::Flags));
+        }
+    }
+
+    /// Traps 7 and 18: memory address first; sums of whole numbers.
+    #[test]
+    fn map_ends_at_2_to_the_48_and_at_the_end_of_memory() {
+        let mut state = pages(2);
+        let last = (1 << 48) - 4_096;
+        let top = 0u64.wrapping_sub(4_096);
+        assert_eq!(map(&mut state, 3, 0, last, 8_192), refused(Refusal::Range));
+        assert_eq!(
+            map(&mut state, 3, 0, 1 << 48, 4_096),
+            refused(Refusal::Range)
+        );
+        assert_eq!(map(&mut state, 3, 0, top, 4_096), refused(Refusal::Range));
+        assert_eq!(map(&mut state, 3, 0, 4_096, top), refused(Refusal::Range));
+        assert_eq!(map(&mut state, 3, top, 0, 4_096), refused(Refusal::Range));
+        assert_eq!(map(&mut state, 3, 8_192, 0, 4_096), refused(Refusal::Range));
+        assert_eq!(map(&mut state, 3, 4_096, last, 4_096), Ok(0));
+        assert_eq!(state.mappings[0].memory, MemoryAddress(4_096));
+        assert_eq!(state.mappings[0].device, DeviceAddress(last));
+    }
+
+    /// the last broken page of memory cannot be mapped.
+    #[test]
+    fn a_broken_last_page_cannot_be_mapped() {
+        let mut state = State::fresh(8_191);
+        assert_eq!(map(&mut state, 3, 4_096, 0, 4_096), refused(Refusal::Range));
+        assert_eq!(map(&mut state, 3, 0, 0, 4_096), Ok(0));
+    }
+
+    /// Trap 13.
+    #[test]
+    fn any_shared_device_address_overlaps_and_adjoining_does_not() {
+        let mut state = pages(4);
+        assert_eq!(map(&mut state, 3, 0, 8_192, 8_192), Ok(0));
+        let clashes = [
+            (8_192, 8_192),  // the same
+            (4_096, 16_384), // encloses it
+            (12_288, 4_096), // its last page
+            (4_096, 8_192),  // its first page
+            (12_288, 8_192), // reaches behind it
+        ];
+        for (device, size) in clashes {
+            assert_eq!(
+                map(&mut state, 3, 0, device, size),
+                refused(Refusal::Overlap)
+            );
+        }
+        assert_eq!(map(&mut state, 3, 0, 16_384, 4_096), Ok(0));
+        assert_eq!(map(&mut state, 3, 0, 4_096, 4_096), Ok(0));
+        assert_eq!(held(&state), [4_096, 8_192, 16_384]);
+    }
+
+    /// Trap 17.
+    #[test]
+    fn the_table_holds_64_rising_and_uses_a_freed_place_again() {
+        let mut state = pages(1);
+        for i in (0..64).rev() {
+            assert_eq!(map(&mut state, 1, 0, i * 8_192, 4_096), Ok(0));
+        }
+        assert!(held(&state).windows(2).all(|two| two[0] < two[1]));
+        assert_eq!(
+            map(&mut state, 1, 0, 4_096, 4_096),
+            refused(Refusal::NoRoom)
+        );
+        assert_eq!(unmap(&mut state, 0, 8_192, 4_096), Ok(4_096));
+        assert_eq!(map(&mut state, 1, 0, 4_096, 4_096), Ok(0));
+        assert_eq!(held(&state)[..3], [0, 4_096, 16_384]);
+        assert_eq!(
+            map(&mut state, 1, 0, 8_192, 4_096),
+            refused(Refusal::NoRoom)
+        );
+    }
+
+    #[test]
+    fn unmaps_checks_run_in_the_papers_order() {
+        let mut state = pages(2);
+        assert_eq!(map(&mut state, 3, 0, 0, 8_192), Ok(0));
+        let top = 0u64.wrapping_sub(4_096);
+        assert_eq!(unmap(&mut state, 0, 0, 4_096), refused(Refusal::Cuts));
+        assert_eq!(
+            unmap(&mut state, 0, 4_096, 1 << 48),
+            refused(Refusal::Range)
+        );
+        assert_eq!(unmap(&mut state, 0, top, 4_096), refused(Refusal::Range));
+        assert_eq!(unmap(&mut state, 0, top, 1), refused(Refusal::Unaligned));
+        assert_eq!(unmap(&mut state, 0, 1, top), refused(Refusal::Unaligned));
+        assert_eq!(unmap(&mut state, 0, 1, 0), refused(Refusal::Empty));
+        for flags in [1, 3, 0x100] {
+            assert_eq!(unmap(&mut state, flags, 1, 0), refused(Refusal::Flags));
+        }
+    }
+
+    /// Traps 14 and 15, with the worked values.
+    #[test]
+    fn unmap_removes_all_inside_or_refuses_to_cut() {
+        let mut state = pages(2);
+        assert_eq!(map(&mut state, 3, 0, 0, 8_192), Ok(0));
+        assert_eq!(map(&mut state, 3, 0, 8_192, 4_096), Ok(0));
+        let before = state.clone();
+        assert_eq!(unmap(&mut state, 0, 4_096, 8_192), refused(Refusal::Cuts));
+        assert_eq!(unmap(&mut state, 0, 4_096, 4_096), refused(Refusal::Cuts));
+        assert_eq!(unmap(&mut state, 0, 0, 4_096), refused(Refusal::Cuts));
+        assert_eq!(state, before);
+        assert_eq!(unmap(&mut state, 0, 0, 12_288), Ok(12_288));
+        assert_eq!(held(&state), []);
+    }
+
+    /// A range that takes one mapping whole and cuts another removes neither.
+    #[test]
+    fn a_cut_at_the_high_end_keeps_the_mapping_below_it() {
+        let mut state = pages(2);
+        assert_eq!(map(&mut state, 3, 0, 0, 4_096), Ok(0));
+        assert_eq!(map(&mut state, 3, 0, 8_192, 8_192), Ok(0));
+        assert_eq!(unmap(&mut state, 0, 0, 12_288), refused(Refusal::Cuts));
+        assert_eq!(held(&state), [0, 8_192]);
+    }
+
+    /// Trap 16 and A-17: holes count nothing, and the range may be the whole device space.
+    #[test]
+    fn unmap_reports_what_it_removed_not_what_was_asked() {
+        let mut state = pages(2);
+        assert_eq!(unmap(&mut state, 0, 0, 1 << 48), Ok(0));
+        assert_eq!(map(&mut state, 3, 0, 4_096, 4_096), Ok(0));
+        assert_eq!(map(&mut state, 3, 0, 1 << 40, 8_192), Ok(0));
+        assert_eq!(unmap(&mut state, 0, 0, 4_096), Ok(0));
+        assert_eq!(unmap(&mut state, 0, 0, 1 << 48), Ok(12_288));
+        assert_eq!(held(&state), []);
+    }
+
+    /// it resets the card, not the bench.
+    #[test]
+    fn reset_keeps_the_running_state_and_the_table() {
+        let mut state = pages(1);
+        assert_eq!(map(&mut state, 3, 0, 0, 4_096), Ok(0));
+        assert_eq!(set_register(&mut state, 0x103, 0, &[15]), Ok(0));
+        assert_eq!(set_register(&mut state, 0x102, 16, &[1, 2]), Ok(0));
+        state.running = true;
+        let mut expected = state.clone();
+        expected.registers = registers::reset();
+        assert_eq!(ask(&mut state, DEVICE, 111, &mut []), Ok(0));
+        assert_eq!(state, expected);
+    }
+}

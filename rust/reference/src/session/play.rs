@@ -1,0 +1,191 @@
+//! Playing a session: each call's outcome is printed and compared with what is expected.
+
+use std::io::{self, Write};
+
+use super::{Call, Session};
+use crate::answer::Answer;
+use crate::bench::{fresh_start, start, stop, DeviceAddress, MemoryAddress, State};
+use crate::moves::{card_read, card_write, forget, host_load, host_store, look_up};
+use crate::parts::{load_parts, save_parts, step};
+use crate::registers::{read_register, set_register};
+use crate::requests::{listed, request};
+
+/// Whether every expectation was met.
+pub fn play(session: &Session, out: &mut impl Write) -> io::Result<bool> {
+    let mut player = Player::new(session);
+    let mut all_met = true;
+    for line in &session.lines {
+        let printed = player.play(&line.call);
+        writeln!(out, "{}: {printed}", line.number)?;
+        if let Some(expected) = line.expected.as_ref().filter(|text| **text != printed) {
+            writeln!(out, "{}: expected {expected}", line.number)?;
+            all_met = false;
+        }
+    }
+    Ok(all_met)
+}
+
+struct Player {
+    state: State,
+    memory: Vec<u8>,
+    marks: Vec<u8>,
+    garbage: u8,
+}
+
+impl Player {
+    fn new(session: &Session) -> Player {
+        Player {
+            state: State::fresh(session.memory_size as u64),
+            memory: vec![session.garbage; session.memory_size],
+            marks: vec![0; session.memory_size],
+            garbage: session.garbage,
+        }
+    }
+
+    /// An output buffer as it is before a call.
+    fn buffer(&self, length: usize) -> Vec<u8> {
+        vec![self.garbage; length]
+    }
+
+    /// Plays one call and says what is printed behind the line's number.
+    fn play(&mut self, call: &Call) -> String {
+        match call {
+            Call::PowerOn => {
+                let answer = fresh_start(&mut self.state, &self.memory, &mut self.marks);
+                number(answer)
+            }
+            Call::Request {
+                target,
+                number,
+                buffer,
+            } => self.request(*target, *number, buffer),
+            Call::LookUp { device } => match look_up(&self.state, DeviceAddress(*device)) {
+                Ok((memory, rights)) => format!("ok {} rights {rights}", memory.0),
+                Err(refused) => refused.to_string(),
+            },
+            Call::CardRead { device, length } => {
+                let device = DeviceAddress(*device);
+                let mut buffer = self.buffer(*length);
+                let answer = card_read(&self.state, &self.memory, &self.marks, device, &mut buffer);
+                number_and_bytes(answer, &buffer)
+            }
+            Call::CardWrite { device, bytes } => number(card_write(
+                &self.state,
+                &mut self.memory,
+                &mut self.marks,
+                DeviceAddress(*device),
+                bytes,
+            )),
+            Call::HostStore { memory, bytes } => number(host_store(
+                &self.state,
+                &mut self.memory,
+                &mut self.marks,
+                MemoryAddress(*memory),
+                bytes,
+            )),
+            Call::HostLoad { memory, length } => {
+                let address = MemoryAddress(*memory);
+                let mut buffer = self.buffer(*length);
+                let answer =
+                    host_load(&self.state, &self.memory, &self.marks, address, &mut buffer);
+                number_and_bytes(answer, &buffer)
+            }
+            Call::Forget { memory, length } => number(forget(
+                &self.state,
+                &self.memory,
+                &mut self.marks,
+                MemoryAddress(*memory),
+                *length,
+            )),
+            Call::SetRegister {
+                kind,
+                selector,
+                value,
+            } => number(set_register(&mut self.state, *kind, *selector, value)),
+            Call::ReadRegister {
+                kind,
+                selector,
+                room,
+            } => {
+                let mut buffer = self.buffer(*room);
+                let answer = read_register(&self.state, *kind, *selector, &mut buffer);
+                number_and_first_bytes(answer, &buffer)
+            }
+            Call::LoadParts { stream } => number(load_parts(&mut self.state, stream)),
+            Call::SaveParts { room } => {
+                let mut buffer = self.buffer(*room);
+                let answer = save_parts(&self.state, &mut buffer);
+                number_and_first_bytes(answer, &buffer)
+            }
+            Call::Stop => number(stop(&mut self.state)),
+            Call::Start => number(start(&mut self.state)),
+            Call::Step { place, stream } => walker_step(*place, stream),
+        }
+    }
+
+    fn request(&mut self, target: u64, request_number: u64, given: &[Option<u8>]) -> String {
+        let mut buffer: Vec<u8> = given
+            .iter()
+            .map(|byte| byte.unwrap_or(self.garbage))
+            .collect();
+        let answer = request(
+            &mut self.state,
+            &self.memory,
+            &self.marks,
+            target,
+            request_number,
+            &mut buffer,
+        );
+        match listed(target, request_number) {
+            Some(line) if line.writes && answer.is_ok() => {
+                number_and_bytes(answer, &buffer[..line.size])
+            }
+            _ => number(answer),
+        }
+    }
+}
+
+fn walker_step(place: u64, stream: &[u8]) -> String {
+    match step(stream, place) {
+        Ok(None) => "end".to_string(),
+        Ok(Some(part)) => format!(
+            "part {:#x} flags {} selector {} next {} : {}",
+            part.kind,
+            part.flags,
+            part.selector,
+            part.next,
+            shown(part.value)
+        ),
+        Err(refused) => refused.to_string(),
+    }
+}
+
+fn number(answer: Answer<u64>) -> String {
+    match answer {
+        Ok(result) => format!("ok {result}"),
+        Err(refused) => refused.to_string(),
+    }
+}
+
+fn number_and_bytes(answer: Answer<u64>, bytes: &[u8]) -> String {
+    match answer {
+        Ok(result) => format!("ok {result} : {}", shown(bytes)),
+        Err(refused) => refused.to_string(),
+    }
+}
+
+/// The result says how many of the buffer's bytes were written.
+fn number_and_first_bytes(answer: Answer<u64>, buffer: &[u8]) -> String {
+    match answer {
+        Ok(length) => number_and_bytes(answer, &buffer[..length as usize]),
+        Err(refused) => refused.to_string(),
+    }
+}
+
+fn shown(bytes: &[u8]) -> String {
+    if bytes.is_empty() {
+        return "-".to_string();
+    }
+    let pairs: Vec<String> = bytes.iter().map(|byte| format!("{byte:02x}")).collect();
+    pairs.join(" ")
+}
