@@ -13,7 +13,7 @@ use Rattle.memory.specs.Memory.{edit, edited, stores, clears, bytesFrom}
 use Rattle.memory.specs.Transfers.{unwrittenAt, hostWriteChecks, hostReadChecks, invalidateChecks}
 use Rattle.registers.specs.Rows.{kindOf, sizeOf}
 use Rattle.registers.specs.Values.{contentChecks, valueChecks}
-use Rattle.registers.specs.File.{current, withValue, reset, soundFrom as soundRegistersFrom, soundFile}
+use Rattle.registers.specs.File.{current, withValue, reset, soundValue, soundFrom as soundRegistersFrom, soundFile}
 use Rattle.emulator.specs.Machine.{soundMappings, soundLength, sound, lendable, asNoted, usable, poweredOn}
 use Rattle.emulator.specs.Effect.{effectOf, outcomeOf, after, filled}
 use Rattle.emulator.specs.Requests.{entryIn, identify, inFields, inputOf, interruptAt, requestedIndex, argszChecks, listedChecks, requestChecks, listedEffect, requestEffect}
@@ -23,5 +23,5 @@ use Rattle.assurance.specs.Runs.{written, disturbed, lentTo, event, turn
 use Rattle.assurance.specs.Examples.{filledWith, noise, calls, answersOf, buffersOf, answers, buffers, WorkedRuns}
 
 pub worked : WorkedRuns
-unfolding filledWith noise calls answersOf buffersOf answers buffers overwrite written disturbed lentTo event turn run given input ownChecks checks effect outcome _and_ _or_ pick isSome lengthCheck _then_ _when_ _unless_ _at_ firstFault passes settle inMemoryRange field bytesOf soundFrom soundTable initialized marked shadowLength edit edited stores clears bytesFrom unwrittenAt hostWriteChecks hostReadChecks invalidateChecks kindOf sizeOf contentChecks valueChecks current withValue reset soundRegistersFrom soundFile soundMappings soundLength sound lendable asNoted usable poweredOn effectOf outcomeOf after filled entryIn identify inFields inputOf interruptAt requestedIndex argszChecks listedChecks requestChecks listedEffect requestEffect
+unfolding filledWith noise calls answersOf buffersOf answers buffers overwrite written disturbed lentTo event turn run given input ownChecks checks effect outcome _and_ _or_ pick isSome lengthCheck _then_ _when_ _unless_ _at_ firstFault passes settle inMemoryRange field bytesOf soundFrom soundTable initialized marked shadowLength edit edited stores clears bytesFrom unwrittenAt hostWriteChecks hostReadChecks invalidateChecks kindOf sizeOf contentChecks valueChecks current withValue reset soundValue soundRegistersFrom soundFile soundMappings soundLength sound lendable asNoted usable poweredOn effectOf outcomeOf after filled entryIn identify inFields inputOf interruptAt requestedIndex argszChecks listedChecks requestChecks listedEffect requestEffect
 worked = record { first = refl; first-buffers = refl; second = refl; second-buffers = refl }

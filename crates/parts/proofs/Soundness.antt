@@ -6,7 +6,7 @@ use mathlib.Core.Bool.{Bool, true, false}
 use mathlib.Core.List.{List, [], _∷_}
 use mathlib.Core.Option.{some}
 use lib.ListN.{length, set, length-set}
-use Rattle.answer.specs.Tests.{pick}
+use Rattle.answer.specs.Tests.{_and_, pick}
 use Rattle.answer.specs.Answer.{Answer, done, refused, settle, _onward_, verdict, resultOr}
 use Rattle.answer.specs.declared.Verdict.{Verdict}
 use Rattle.answer.specs.declared.Verdict.the-variants.{Pass, Fail}
@@ -14,7 +14,7 @@ use Rattle.answer.proofs.Tests.{and-true, and-made, pick-true}
 use Rattle.answer.proofs.Checks.{then-pass, unless-pass, when-pass, at-pass}
 use Rattle.registers.specs.Rows.{rowCount, rowOf, listed}
 use Rattle.registers.specs.Values.{valueChecks}
-use Rattle.registers.specs.File.{File, keptCount, current, soundFrom, soundFile, fileOf}
+use Rattle.registers.specs.File.{File, keptCount, current, soundFrom, soundFile, fileOf, soundValue}
 use Rattle.registers.specs.declared.Registers.{Registers}
 use Rattle.registers.proofs.File.{sound-cons, sound-sized, file-written}
 use Rattle.registers.proofs.Soundness.{sound-set}
@@ -102,7 +102,7 @@ from-sound (suc fuel) s p seen file e good = step (stepAt s p) e (λ p′ seen�
 
 -- What an accepted stream makes is a sound register file.
 pub load-sound : (running : Bool) (s : List ℕ) (file : File) → load running s ≡ done file → (length file ≡ keptCount) × (soundFile file ≡ true)
-unfolding load Sound soundFrom
+unfolding load Sound soundFrom soundValue _and_
 load-sound running s file e =
     let o = onward-done _ _ _ e in
     let d = settled _ _ _ (o .1) in

@@ -123,9 +123,8 @@ unfolding soundValue
 sound-value i v h = passes-true _ h
 
 pub sound-cons : (i : ℕ) (x : Option (List ℕ)) (file : File) → soundFrom i (x ∷ file) ≡ (soundValue i x and soundFrom (suc i) file)
-unfolding soundFrom soundValue _and_
-sound-cons i none file = refl
-sound-cons i (some v) file = refl
+unfolding soundFrom
+sound-cons i x file = refl
 
 sound-at : (i : ℕ) (file : File) (k : ℕ) (v : List ℕ) → soundFrom i file ≡ true → getD file k none ≡ some v → valueChecks (i + k) false v ≡ Pass
 sound-at i [] k v h e = absurd (none≢some e)
@@ -144,7 +143,7 @@ current-sound file (suc k) v h e = let i : 1 + k ≡ suc k = omega arith in rw (
 
 -- values that are accepted have their rows' sizes
 pub sound-sized : (i : ℕ) (file : File) → soundFrom i file ≡ true → sizedFrom i file ≡ true
-unfolding soundFrom sizedFrom
+unfolding soundFrom soundValue sizedFrom _and_
 sound-sized i [] h = refl
 sound-sized i (none ∷ file) h = sound-sized (suc i) file h
 sound-sized i (some v ∷ file) h =

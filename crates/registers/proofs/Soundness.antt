@@ -22,7 +22,7 @@ use Rattle.registers.proofs.Access.{settable, set-value, kept-value}
 -- ---- reset
 
 pub reset-sound : soundFile reset ≡ true
-unfolding soundFile soundFrom current reset withValue valueChecks contentChecks sizeOf kindOf passes isSome pick _and_ _then_ _when_ _unless_
+unfolding soundFile soundFrom soundValue current reset withValue valueChecks contentChecks sizeOf kindOf passes isSome pick _and_ _then_ _when_ _unless_
 reset-sound = refl
 
 -- what `reset` writes

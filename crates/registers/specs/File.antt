@@ -38,16 +38,15 @@ blank = replicate keptCount none
 unfoldable pub reset : File
 reset = withValue blank statusRow (0 ∷ [])
 
--- "every set register holds a value that setting (for 0x100, loading) accepts", from row `i` on
-unfoldable pub soundFrom : ℕ → File → Bool
-soundFrom i [] = true
-soundFrom i (none ∷ file) = soundFrom (suc i) file
-soundFrom i (some v ∷ file) = passes (valueChecks i false v) and soundFrom (suc i) file
-
--- whether a row's value, where it has one, is such a value
+-- a value that setting (for 0x100, loading) accepts, or none
 unfoldable pub soundValue : ℕ → Option (List ℕ) → Bool
 soundValue i none = true
 soundValue i (some v) = passes (valueChecks i false v)
+
+-- "every set register holds a value that setting (for 0x100, loading) accepts", from row `i` on
+unfoldable pub soundFrom : ℕ → File → Bool
+soundFrom i [] = true
+soundFrom i (x ∷ file) = soundValue i x and soundFrom (suc i) file
 
 -- "status is set, and every set register holds a value that setting accepts"
 unfoldable pub soundFile : File → Bool
