@@ -271,7 +271,8 @@ mod tests {
             assert_eq!(part.flags, flags);
             order.push((part.kind, part.selector));
         }
-        assert_eq!(order, IN_ORDER);
+        assert_eq!(order.len(), 15);
+        assert!(order.windows(2).all(|two| two[0] < two[1]), "{order:x?}");
         let mut loaded = State::fresh(0);
         assert_eq!(load_parts(&mut loaded, &buffer), Ok(0));
         assert_eq!(loaded, state);
@@ -521,6 +522,9 @@ mod tests {
             step(&part(0x103, 2, 0, &[]), 0),
             refused(Refusal::Header, 0)
         );
+        let mut reserved = part(0x103, 0, 0, &[]);
+        reserved[3] = 1;
+        assert_eq!(step(&reserved, 0), refused(Refusal::Header, 0));
         let value = found.value.as_ptr();
         assert_eq!(
             value,

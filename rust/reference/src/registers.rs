@@ -208,7 +208,7 @@ mod tests {
     /// A-37 and the order 20, 26, 19, 6, 22, 23.
     #[test]
     fn settings_checks_run_in_the_papers_order() {
-        let cases: [(u64, u64, &[u8], Refusal); 13] = [
+        let cases: [(u64, u64, &[u8], Refusal); 14] = [
             (0x0ff, 9, &[], Refusal::UnknownPart),
             (0x106, 9, &[], Refusal::UnknownPart),
             (0x600, 0, &[0], Refusal::UnknownPart),
@@ -218,6 +218,7 @@ mod tests {
             (0x101, 1, &[], Refusal::Header),
             (0x103, 1 << 40, &[0], Refusal::Header),
             (0x104, 4, &[], Refusal::Index),
+            (0x105, 4, &[0; 8], Refusal::Index),
             (0x105, 256, &[0; 8], Refusal::Index),
             (0x103, 0, &[], Refusal::Value),
             (0x103, 0, &[0, 0], Refusal::Value),

@@ -159,7 +159,7 @@ fn unmap(state: &mut State, buffer: &mut [u8]) -> Answer<u64> {
     refuse_if(state.mappings.iter().any(|m| cuts(range, m)), Refusal::Cuts)?;
     // The mappings inside lie apart below 2^48, so the sum of their sizes is at most 2^48.
     let inside = state.mappings.iter().filter(|m| m.lies_inside(range));
-    let removed = inside.map(|m| m.size).sum();
+    let removed: u64 = inside.map(|m| m.size).sum();
     state.mappings.retain(|m| !m.lies_inside(range));
     put_number(buffer, 16, 8, removed);
     Ok(0)
@@ -392,7 +392,13 @@ mod tests {
             assert_eq!(number_at(&buffer, 4, 4), flags, "{index}");
             assert_eq!(number_at(&buffer, 12, 4), count, "{index}");
         }
-        for (number, index) in [(108, 9), (108, 0x107), (109, 4), (109, 0x0100_0000)] {
+        for (number, index) in [
+            (108, 9),
+            (108, 0x107),
+            (108, 0x0001_0007),
+            (109, 4),
+            (109, 0x0100_0000),
+        ] {
             let mut asked = buffer(32, &[(0, 4, 32), (8, 4, index)]);
             let before = asked.clone();
             let answer = ask(&mut state, DEVICE, number, &mut asked);
