@@ -87,7 +87,7 @@ fn location(l: Location) -> Found
             address,
             rights,
         },
-        Location::Nowhere(code, place) => Found {
+        Location::Refused(code, place) => Found {
             outcome: Outcome {
                 refused: true,
                 code,

@@ -23,7 +23,7 @@ use Rattle.emulator.specs.Requests.{Request, getApiVersion, checkExtensi
 use Rattle.emulator.specs.Calls.{Call, powerOn, request, lookUp, deviceRead, deviceWrite, hostWrite, hostRead, invalidate, setRegister, readRegister, loadParts, saveParts, stop, start, checks, outcome}
 use Rattle.emulator.specs.declared.State.{State}
 use Rattle.emulator.specs.declared.Location.{Location}
-use Rattle.emulator.specs.declared.Location.the-variants.{At, Nowhere}
+use Rattle.emulator.specs.declared.Location.the-variants.{At, Refused as NotFound}
 
 -- the part of the code's state that an accepted call writes
 pub data Writes : Type 0 where
@@ -108,7 +108,7 @@ told (Refused code place) = refused code place
 
 abbrev pub toldLocation : Location → Answer Result
 toldLocation (At a rights) = done (location a rights)
-toldLocation (Nowhere code place) = refused code place
+toldLocation (NotFound code place) = refused code place
 
 -- the call that leaves the device running, or stopped
 abbrev pub runCall : Bool → Call

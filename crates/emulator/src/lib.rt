@@ -35,7 +35,7 @@ pub struct Reply {
 // What look-up answers: memory address and rights, or a refusal's number and place.
 pub enum Location {
     At(MemoryAddress, u32),
-    Nowhere(u32, u64),
+    Refused(u32, u64),
 }
 
 // Whether a kept state is sound.
@@ -106,16 +106,16 @@ pub fn look_up(state: State, d: DeviceAddress) -> Location
     ensures { λ r. ⌜ ((m : Memory) → Meets (lookUp d) [] state m (toldLocation r) [] m state) ⌝ }
 {
     if !sound(state) {
-        return Location::Nowhere(answer::BAD_BENCH, 0);
+        return Location::Refused(answer::BAD_BENCH, 0);
     }
     if address::DEVICE_LIMIT <= d.0 {
-        return Location::Nowhere(answer::RANGE, 0);
+        return Location::Refused(answer::RANGE, 0);
     }
     let table = state.table;
     let found = iommu::translate(table, d);
     match found {
         Translation::At(a, rights) => Location::At(a, rights),
-        Translation::Nowhere => Location::Nowhere(answer::UNMAPPED, 0),
+        Translation::Nowhere => Location::Refused(answer::UNMAPPED, 0),
     }
 }
 
