@@ -5,10 +5,10 @@ use Rattle.capi.proofs.glint_device_write.Statement.{statement}
 use Rattle.capi.proofs.glint_device_write.Tie as tie
 
 device-write-requires : tie.Need-device-write-requires
-device-write-requires c κs = search needs
+device-write-requires c κs = tt
 
 numbers-requires : tie.Need-numbers-requires
-numbers-requires c κs = search needs
+numbers-requires c κs = tt
 
 same-length : tie.Need-same-length
 same-length c = search needs

@@ -5,10 +5,10 @@ use Rattle.capi.proofs.glint_host_write.Statement.{statement}
 use Rattle.capi.proofs.glint_host_write.Tie as tie
 
 host-write-requires : tie.Need-host-write-requires
-host-write-requires c κs = search needs
+host-write-requires c κs = tt
 
 numbers-requires : tie.Need-numbers-requires
-numbers-requires c κs = search needs
+numbers-requires c κs = tt
 
 same-length : tie.Need-same-length
 same-length c = search needs

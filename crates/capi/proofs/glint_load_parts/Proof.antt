@@ -5,10 +5,10 @@ use Rattle.capi.proofs.glint_load_parts.Statement.{statement}
 use Rattle.capi.proofs.glint_load_parts.Tie as tie
 
 load-parts-requires : tie.Need-load-parts-requires
-load-parts-requires c κs = search needs
+load-parts-requires c κs = tt
 
 with-state-requires : tie.Need-with-state-requires
-with-state-requires c κs = search needs
+with-state-requires c κs = tt
 
 returns : tie.Need-returns
 returns c = λ m. as-kept (c .with-state .ensures) (c .before .load-parts .ensures m)

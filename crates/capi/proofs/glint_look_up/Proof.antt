@@ -5,10 +5,10 @@ use Rattle.capi.proofs.glint_look_up.Statement.{statement}
 use Rattle.capi.proofs.glint_look_up.Tie as tie
 
 look-up-requires : tie.Need-look-up-requires
-look-up-requires c κs = search needs
+look-up-requires c κs = tt
 
 location-requires : tie.Need-location-requires
-location-requires c κs = search needs
+location-requires c κs = tt
 
 returns : tie.Need-returns
 returns c = λ m. as-told (c .location .ensures) (c .before .look-up .ensures m)

@@ -5,10 +5,10 @@ use Rattle.capi.proofs.glint_power_on.Statement.{statement}
 use Rattle.capi.proofs.glint_power_on.Tie as tie
 
 power-on-requires : tie.Need-power-on-requires
-power-on-requires c κs = search needs
+power-on-requires c κs = tt
 
 with-state-requires : tie.Need-with-state-requires
-with-state-requires c κs = search needs
+with-state-requires c κs = tt
 
 same-length : tie.Need-same-length
 same-length c = search needs

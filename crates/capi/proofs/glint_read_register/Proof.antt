@@ -5,10 +5,10 @@ use Rattle.capi.proofs.glint_read_register.Statement.{statement}
 use Rattle.capi.proofs.glint_read_register.Tie as tie
 
 read-register-requires : tie.Need-read-register-requires
-read-register-requires c κs = search needs
+read-register-requires c κs = tt
 
 numbers-requires : tie.Need-numbers-requires
-numbers-requires c κs = search needs
+numbers-requires c κs = tt
 
 same-length : tie.Need-same-length
 same-length c = search needs

@@ -5,10 +5,10 @@ use Rattle.capi.proofs.glint_request.Statement.{statement}
 use Rattle.capi.proofs.glint_request.Tie as tie
 
 request-requires : tie.Need-request-requires
-request-requires c κs = search needs
+request-requires c κs = tt
 
 with-state-requires : tie.Need-with-state-requires
-with-state-requires c κs = search needs
+with-state-requires c κs = tt
 
 same-length : tie.Need-same-length
 same-length c = search needs

@@ -5,10 +5,10 @@ use Rattle.capi.proofs.glint_save_parts.Statement.{statement}
 use Rattle.capi.proofs.glint_save_parts.Tie as tie
 
 save-parts-requires : tie.Need-save-parts-requires
-save-parts-requires c κs = search needs
+save-parts-requires c κs = tt
 
 numbers-requires : tie.Need-numbers-requires
-numbers-requires c κs = search needs
+numbers-requires c κs = tt
 
 same-length : tie.Need-same-length
 same-length c = search needs

@@ -5,10 +5,10 @@ use Rattle.capi.proofs.glint_set_register.Statement.{statement}
 use Rattle.capi.proofs.glint_set_register.Tie as tie
 
 set-register-requires : tie.Need-set-register-requires
-set-register-requires c κs = search needs
+set-register-requires c κs = tt
 
 with-state-requires : tie.Need-with-state-requires
-with-state-requires c κs = search needs
+with-state-requires c κs = tt
 
 returns : tie.Need-returns
 returns c = λ m. as-kept (c .with-state .ensures) (c .before .set-register .ensures m)

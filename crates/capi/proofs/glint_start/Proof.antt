@@ -5,10 +5,10 @@ use Rattle.capi.proofs.glint_start.Statement.{statement}
 use Rattle.capi.proofs.glint_start.Tie as tie
 
 start-requires : tie.Need-start-requires
-start-requires c κs = search needs
+start-requires c κs = tt
 
 with-state-requires : tie.Need-with-state-requires
-with-state-requires c κs = search needs
+with-state-requires c κs = tt
 
 returns : tie.Need-returns
 returns c = λ m. as-kept (c .with-state .ensures) (c .before .start .ensures m)

@@ -5,7 +5,7 @@ use Rattle.capi.proofs.glint_step.Statement.{statement}
 use Rattle.capi.proofs.glint_step.Tie as tie
 
 step-at-requires : tie.Need-step-at-requires
-step-at-requires c κs = search needs
+step-at-requires c κs = tt
 
 enum-known-step : tie.Need-enum-known-step
 enum-known-step c = search needs

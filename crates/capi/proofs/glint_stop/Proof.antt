@@ -5,10 +5,10 @@ use Rattle.capi.proofs.glint_stop.Statement.{statement}
 use Rattle.capi.proofs.glint_stop.Tie as tie
 
 stop-requires : tie.Need-stop-requires
-stop-requires c κs = search needs
+stop-requires c κs = tt
 
 with-state-requires : tie.Need-with-state-requires
-with-state-requires c κs = search needs
+with-state-requires c κs = tt
 
 returns : tie.Need-returns
 returns c = λ m. as-kept (c .with-state .ensures) (c .before .stop .ensures m)
