@@ -1,0 +1,570 @@
+/*
+ * Glintbasket for C11 and C++: a strict, verified emulator of the host side of VFIO.
+ *
+ * Link with libcapi.a (x86-64 Linux), which `rt staticlib capi` writes to target/staticlib.
+ *
+ * The first half of this file declares the library: structs, constants and functions. The second half is a thin layer over it,
+ * struct glint_bench and the functions glint_bench_*, which keeps the state for the caller. Most programs need the second half alone:
+ *
+ *     static uint8_t memory[8192], marks[8192];
+ *     static glint_bench bench;
+ *     glint_bench_init(&bench, memory, marks, sizeof memory);
+ *     glint_bench_map(&bench, glint_memory(0), glint_device(0x10000), 4096, GLINT_READ);
+ *     glint_bench_host_write(&bench, glint_memory(0), "ab", 2);
+ *     glint_outcome o = glint_bench_device_read(&bench, glint_device(0x10000), buffer, 3);
+ *     // o.refused, o.code is GLINT_UNWRITTEN and o.place is 2: nobody wrote the third byte.
+ *
+ * What the library takes for granted, because no call can test it:
+ *   - a pointer is not null, also where its length is 0 (the second half sees to that), and its bytes may be read or written;
+ *   - memory, marks and the buffer of one call do not overlap;
+ *   - a bool in a state is 0 or 1. All else of a state may hold any values: a call refuses an unsound one with GLINT_BAD_BENCH.
+ */
+#ifndef GLINTBASKET_H
+#define GLINTBASKET_H
+
+#include <stdbool.h>
+#include <stddef.h>
+#include <stdint.h>
+#include <string.h>
+
+#ifdef __cplusplus
+#define GLINT_ASSERT(condition) static_assert(condition, #condition)
+extern "C" {
+#else
+#define GLINT_ASSERT(condition) _Static_assert(condition, #condition)
+#endif
+
+/* ---- limits */
+
+#define GLINT_PAGE_SIZE 4096u
+#define GLINT_MAPPINGS 64u                        /* mappings that a table holds */
+#define GLINT_REGISTERS 14u                       /* registers that are kept */
+#define GLINT_DEVICE_LIMIT UINT64_C(0x1000000000000) /* device addresses lie below */
+#define GLINT_MEMORY_LIMIT UINT64_C(0x40000000)   /* memory has at most so many bytes */
+#define GLINT_TRANSFER_LIMIT 65536u               /* bytes of one transfer, and of a stream */
+#define GLINT_PART_HEADER 16u                     /* bytes of a part before its value */
+#define GLINT_SAVED_MAX 429u                      /* bytes that saving ever writes */
+
+/* ---- refusals */
+
+/* The numbers of the refusals. A comment with "place" says what the place of such a refusal is; else it is 0. */
+enum glint_refusal {
+    GLINT_BAD_BENCH = 1,       /* memory and marks do not fit each other or the state, or the state is not sound */
+    GLINT_NO_SUCH_REQUEST = 2, /* the target has no request of this number */
+    GLINT_SHORT = 3,           /* buffer shorter than the request's size */
+    GLINT_ARG_SIZE = 4,        /* argsz below the request's size or above the buffer's length */
+    GLINT_FLAGS = 5,           /* flags not allowed */
+    GLINT_INDEX = 6,           /* no such region, interrupt, queue or field; place in a stream: start of the part */
+    GLINT_UNALIGNED = 7,       /* an address or size is no multiple of 4,096 */
+    GLINT_EMPTY = 8,           /* size 0 */
+    GLINT_RANGE = 9,           /* past 2^48, or past the end of memory */
+    GLINT_OVERLAP = 10,        /* shares a device address with a held mapping */
+    GLINT_NO_ROOM = 11,        /* 64 mappings are held */
+    GLINT_CUTS = 12,           /* the range holds some but not all of a mapping */
+    GLINT_TOO_LONG = 13,       /* transfer or stream over 65,536 bytes */
+    GLINT_UNMAPPED = 14,       /* place: first faulty offset */
+    GLINT_NO_RIGHT = 15,       /* place: first faulty offset */
+    GLINT_UNWRITTEN = 16,      /* place: first faulty offset */
+    GLINT_RUNNING = 17,        /* device not stopped */
+    GLINT_TRUNCATED = 18,      /* place: start of the part */
+    GLINT_HEADER = 19,         /* place: start of the part */
+    GLINT_UNKNOWN_PART = 20,   /* place: start of the part */
+    GLINT_TWICE = 21,          /* place: start of the part */
+    GLINT_VALUE = 22,          /* place: start of the part */
+    GLINT_MISMATCH = 23,       /* place: start of the part */
+    GLINT_MISSING = 24,        /* no status part; place: length of the stream */
+    GLINT_UNSET = 25,          /* register never set */
+    GLINT_READ_ONLY = 26,      /* setting offered features */
+    GLINT_NO_SPACE = 27        /* output buffer too small */
+};
+
+/* The name of a refusal, as "Unwritten" for GLINT_UNWRITTEN; "?" for a number that is none. */
+static inline const char *glint_refusal_name(uint32_t code)
+{
+    static const char *const names[] = {
+        "?", "BadBench", "NoSuchRequest", "Short", "ArgSize", "Flags", "Index",
+        "Unaligned", "Empty", "Range", "Overlap", "NoRoom", "Cuts", "TooLong",
+        "Unmapped", "NoRight", "Unwritten", "Running", "Truncated", "Header", "UnknownPart",
+        "Twice", "Value", "Mismatch", "Missing", "Unset", "ReadOnly", "NoSpace",
+    };
+    return code <= GLINT_NO_SPACE ? names[code] : names[0];
+}
+
+/* ---- addresses */
+
+/* The two kinds of address are two types, so that a compiler refuses one in the place of the other. */
+
+/* An address as the device sees it (IOVA). */
+typedef struct glint_device_address {
+    uint64_t value;
+} glint_device_address;
+
+/* An address as a count of bytes from the start of memory. */
+typedef struct glint_memory_address {
+    uint64_t value;
+} glint_memory_address;
+
+static inline glint_device_address glint_device(uint64_t value)
+{
+    glint_device_address address = {value};
+    return address;
+}
+
+static inline glint_memory_address glint_memory(uint64_t value)
+{
+    glint_memory_address address = {value};
+    return address;
+}
+
+/* ---- the kept state */
+
+/* What a device may do with a mapping's bytes. */
+#define GLINT_READ 1u
+#define GLINT_WRITE 2u
+
+/* `size` bytes of memory from `memory` on, shown at the device addresses from `device` on. */
+typedef struct glint_mapping {
+    glint_device_address device;
+    glint_memory_address memory;
+    uint64_t size;
+    uint32_t rights;
+} glint_mapping;
+
+/* The first `count` entries are in use, by rising device address. The others mean nothing. */
+typedef struct glint_table {
+    glint_mapping entries[GLINT_MAPPINGS];
+    uint64_t count;
+} glint_table;
+
+/* A register: whether it is set, and from the first byte on its value. Read it by glint_read_register. */
+typedef struct glint_register {
+    bool set;
+    uint8_t bytes[32];
+} glint_register;
+
+/* By rising type and selector: driver features, four common fields, status, four queues, four notify values. */
+typedef struct glint_registers {
+    glint_register slots[GLINT_REGISTERS];
+} glint_registers;
+
+/* What is kept between calls. A call gets it by value and gives back the one to keep. It may start as zeros before glint_power_on. */
+typedef struct glint_state {
+    uint64_t memory_length;
+    glint_table table;
+    glint_registers registers;
+    bool running;
+} glint_state;
+
+/* ---- answers */
+
+/* Refused: `code` (enum glint_refusal) and `place`; nothing lent or kept has changed. Else `result`, 0 where none is stated. */
+typedef struct glint_outcome {
+    bool refused;
+    uint32_t code;
+    uint64_t place;
+    uint64_t result;
+} glint_outcome;
+
+/* An answer, and the state to keep. */
+typedef struct glint_kept {
+    glint_outcome outcome;
+    glint_state state;
+} glint_kept;
+
+/* Look-up's answer. */
+typedef struct glint_found {
+    glint_outcome outcome;
+    glint_memory_address address;
+    uint32_t rights;
+} glint_found;
+
+/* One step over a stream: refused; or the end; or a part, whose value reaches from 16 bytes behind the step's place to `next`. */
+typedef struct glint_part_step {
+    bool refused;
+    bool end;
+    uint32_t code;
+    uint64_t place;
+    uint16_t kind;
+    uint8_t flags;
+    uint64_t selector;
+    uint64_t next; /* the place of the next step; after a refusal or the end the place of this one */
+} glint_part_step;
+
+/* The layout is part of the interface: a library for another machine must not link unnoticed. */
+GLINT_ASSERT(sizeof(bool) == 1);
+GLINT_ASSERT(sizeof(size_t) == 8);
+GLINT_ASSERT(sizeof(glint_mapping) == 32);
+GLINT_ASSERT(sizeof(glint_table) == 2056);
+GLINT_ASSERT(sizeof(glint_register) == 33);
+GLINT_ASSERT(sizeof(glint_registers) == 462);
+GLINT_ASSERT(sizeof(glint_state) == 2528);
+GLINT_ASSERT(offsetof(glint_state, table) == 8);
+GLINT_ASSERT(offsetof(glint_state, registers) == 2064);
+GLINT_ASSERT(offsetof(glint_state, running) == 2526);
+GLINT_ASSERT(sizeof(glint_outcome) == 24);
+GLINT_ASSERT(sizeof(glint_kept) == 2552);
+GLINT_ASSERT(sizeof(glint_found) == 40);
+GLINT_ASSERT(sizeof(glint_part_step) == 40);
+
+/* ---- the library's functions */
+
+/* Fresh start: all marks 0, memory bytes untouched, the memory's length noted, no mapping, the device stopped and reset. */
+glint_kept glint_power_on(glint_state state, const uint8_t *memory, size_t memory_length, uint8_t *marks, size_t marks_length);
+
+/* A request on a target by number. Reads the input fields of `buffer` and writes its output fields, no other byte. */
+glint_kept glint_request(glint_state state, const uint8_t *memory, size_t memory_length, const uint8_t *marks, size_t marks_length,
+                         uint32_t target, uint32_t number, uint8_t *buffer, size_t buffer_length);
+
+/* Look-up: the memory address and the rights at one device address. Refused: 9, 14. */
+glint_found glint_look_up(glint_state state, uint64_t device);
+
+/* Card read: fills `buffer` from the device address on. Refused: 13, 9, then by the first faulty offset 14, 15, 16. */
+glint_outcome glint_device_read(glint_state state, const uint8_t *memory, size_t memory_length, const uint8_t *marks,
+                                size_t marks_length, uint64_t device, uint8_t *buffer, size_t buffer_length);
+
+/* Card write: stores `buffer` from the device address on, in offset order, and marks those bytes. Refused: 13, 9, 14, 15. */
+glint_outcome glint_device_write(glint_state state, uint8_t *memory, size_t memory_length, uint8_t *marks, size_t marks_length,
+                                 uint64_t device, const uint8_t *buffer, size_t buffer_length);
+
+/* Host store: stores `buffer` from the memory address on and marks those bytes. Refused: 13, 9. */
+glint_outcome glint_host_write(glint_state state, uint8_t *memory, size_t memory_length, uint8_t *marks, size_t marks_length,
+                               uint64_t address, const uint8_t *buffer, size_t buffer_length);
+
+/* Host load: fills `buffer` from the memory address on. Refused: 13, 9, 16. */
+glint_outcome glint_host_read(glint_state state, const uint8_t *memory, size_t memory_length, const uint8_t *marks,
+                              size_t marks_length, uint64_t address, uint8_t *buffer, size_t buffer_length);
+
+/* Forget: sets the marks of `length` bytes from the memory address on to 0 and keeps the bytes. Refused: 9. */
+glint_outcome glint_invalidate(glint_state state, const uint8_t *memory, size_t memory_length, uint8_t *marks, size_t marks_length,
+                               uint64_t address, uint64_t length);
+
+/* Sets the register of a type and a selector number. Refused: 20, 26, 19, 6, 22, 23. */
+glint_kept glint_set_register(glint_state state, uint64_t kind, uint64_t selector, const uint8_t *value, size_t value_length);
+
+/* Reads a register: its value goes to the buffer's start, its length is the result. Refused: 20, 19, 6, 25, 27. */
+glint_outcome glint_read_register(glint_state state, uint64_t kind, uint64_t selector, uint8_t *buffer, size_t buffer_length);
+
+/* Loads a stream of parts: registers named take their values, all others become unset. Refused: 17, 13, 18 to 24, 6. */
+glint_kept glint_load_parts(glint_state state, const uint8_t *stream, size_t stream_length);
+
+/* Saves the set registers as a stream at the buffer's start; its length, 41 to 429, is the result. Refused: 17, 27. */
+glint_outcome glint_save_parts(glint_state state, uint8_t *buffer, size_t buffer_length);
+
+/* Stop and start set whether the device runs, whatever it was. */
+glint_kept glint_stop(glint_state state);
+glint_kept glint_start(glint_state state);
+
+/* One step over a stream from `place` on. Refused, with the step's place: 18, 19. */
+glint_part_step glint_step(const uint8_t *stream, size_t stream_length, size_t place);
+
+/* ---- requests */
+
+/* Targets of glint_request. */
+#define GLINT_CONTAINER 0u
+#define GLINT_DEVICE 1u
+
+/* Requests of the container: the low byte of the kernel's VFIO_* request. */
+#define GLINT_GET_API_VERSION 100u
+#define GLINT_CHECK_EXTENSION 101u
+#define GLINT_IOMMU_GET_INFO 112u
+#define GLINT_IOMMU_MAP_DMA 113u
+#define GLINT_IOMMU_UNMAP_DMA 114u
+
+/* Requests of the device. */
+#define GLINT_DEVICE_GET_INFO 107u
+#define GLINT_DEVICE_GET_REGION_INFO 108u
+#define GLINT_DEVICE_GET_IRQ_INFO 109u
+#define GLINT_DEVICE_RESET 111u
+
+/* The extension that GLINT_CHECK_EXTENSION answers with 1. */
+#define GLINT_TYPE1V2_IOMMU 3u
+
+/* The requests' buffers, laid out as the kernel's structs. Fields that a comment calls output are not read. */
+
+typedef struct glint_dma_map {
+    uint32_t argsz;
+    uint32_t flags; /* GLINT_READ, GLINT_WRITE or both */
+    glint_memory_address memory;
+    glint_device_address device;
+    uint64_t size;
+} glint_dma_map;
+
+typedef struct glint_dma_unmap {
+    uint32_t argsz;
+    uint32_t flags;
+    glint_device_address device;
+    uint64_t size; /* in: the range's; out: the sum of the sizes of removed mappings */
+} glint_dma_unmap;
+
+typedef struct glint_iommu_info {
+    uint32_t argsz;
+    uint32_t flags;      /* output: 1, page sizes are given */
+    uint64_t page_sizes; /* output: bitmap */
+} glint_iommu_info;
+
+typedef struct glint_device_info {
+    uint32_t argsz;
+    uint32_t flags;   /* output */
+    uint32_t regions; /* output */
+    uint32_t irqs;    /* output */
+} glint_device_info;
+
+typedef struct glint_region_info {
+    uint32_t argsz;
+    uint32_t flags; /* output */
+    uint32_t index;
+    uint32_t reserved; /* output: 0 */
+    uint64_t size;     /* output */
+    uint64_t offset;   /* output */
+} glint_region_info;
+
+typedef struct glint_irq_info {
+    uint32_t argsz;
+    uint32_t flags; /* output */
+    uint32_t index;
+    uint32_t count; /* output */
+} glint_irq_info;
+
+GLINT_ASSERT(sizeof(glint_dma_map) == 32);
+GLINT_ASSERT(sizeof(glint_dma_unmap) == 24);
+GLINT_ASSERT(sizeof(glint_iommu_info) == 16);
+GLINT_ASSERT(sizeof(glint_device_info) == 16);
+GLINT_ASSERT(sizeof(glint_region_info) == 32);
+GLINT_ASSERT(sizeof(glint_irq_info) == 16);
+
+/* ---- registers */
+
+/* Types of registers and of parts. */
+#define GLINT_OFFERED_FEATURES 0x100u /* 8 bytes; read only */
+#define GLINT_DRIVER_FEATURES 0x101u  /* 8 bytes */
+#define GLINT_COMMON_FIELD 0x102u     /* selectors 0, 8: 4 bytes; 16, 22: 2 bytes */
+#define GLINT_DEVICE_STATUS 0x103u    /* 1 byte */
+#define GLINT_QUEUE_CONFIG 0x104u     /* selectors 0 to 3: 32 bytes */
+#define GLINT_NOTIFY_CONFIG 0x105u    /* selectors 0 to 3: 8 bytes */
+
+/* ==== a bench that keeps its state ==== */
+
+/* Memory and its marks, lent by the caller, and the state. Marks are the library's: a caller reads them and never writes them. */
+typedef struct glint_bench {
+    uint8_t *memory;
+    size_t memory_length;
+    uint8_t *marks;
+    size_t marks_length;
+    glint_state state;
+} glint_bench;
+
+/* Pointers for a slice: C allows null for no bytes, the library does not. */
+static inline const uint8_t *glint_bytes(const void *bytes)
+{
+    static const uint8_t none = 0;
+    return bytes ? (const uint8_t *)bytes : &none;
+}
+
+static inline uint8_t *glint_bytes_mut(void *bytes)
+{
+    static uint8_t none;
+    return bytes ? (uint8_t *)bytes : &none;
+}
+
+/* Keeps the state that a call gave back, and hands on its answer. */
+static inline glint_outcome glint_bench_keep(glint_bench *bench, const glint_kept *kept)
+{
+    bench->state = kept->state;
+    return kept->outcome;
+}
+
+/* Fresh start on the bench's memory and marks. */
+static inline glint_outcome glint_bench_power_on(glint_bench *bench)
+{
+    glint_kept kept = glint_power_on(bench->state, glint_bytes(bench->memory), bench->memory_length, glint_bytes_mut(bench->marks),
+                                     bench->marks_length);
+    return glint_bench_keep(bench, &kept);
+}
+
+/* Takes `length` bytes of memory and as many marks, and makes a fresh start. */
+static inline glint_outcome glint_bench_init(glint_bench *bench, uint8_t *memory, uint8_t *marks, size_t length)
+{
+    memset(bench, 0, sizeof *bench);
+    bench->memory = memory;
+    bench->memory_length = length;
+    bench->marks = marks;
+    bench->marks_length = length;
+    return glint_bench_power_on(bench);
+}
+
+/* ---- requests */
+
+static inline glint_outcome glint_bench_request(glint_bench *bench, uint32_t target, uint32_t number, void *buffer, size_t length)
+{
+    glint_kept kept = glint_request(bench->state, glint_bytes(bench->memory), bench->memory_length, glint_bytes(bench->marks),
+                                    bench->marks_length, target, number, glint_bytes_mut(buffer), length);
+    return glint_bench_keep(bench, &kept);
+}
+
+/* The result is the version of the interface, 0. */
+static inline glint_outcome glint_bench_api_version(glint_bench *bench)
+{
+    return glint_bench_request(bench, GLINT_CONTAINER, GLINT_GET_API_VERSION, NULL, 0);
+}
+
+/* The result is 1 for GLINT_TYPE1V2_IOMMU, else 0. */
+static inline glint_outcome glint_bench_check_extension(glint_bench *bench, uint32_t extension)
+{
+    return glint_bench_request(bench, GLINT_CONTAINER, GLINT_CHECK_EXTENSION, &extension, sizeof extension);
+}
+
+static inline glint_outcome glint_bench_iommu_info(glint_bench *bench, glint_iommu_info *info)
+{
+    info->argsz = sizeof *info;
+    return glint_bench_request(bench, GLINT_CONTAINER, GLINT_IOMMU_GET_INFO, info, sizeof *info);
+}
+
+/* Shows `size` bytes of memory from `memory` on at the device addresses from `device` on. */
+static inline glint_outcome glint_bench_map(glint_bench *bench, glint_memory_address memory, glint_device_address device,
+                                            uint64_t size, uint32_t rights)
+{
+    glint_dma_map map = {sizeof map, rights, memory, device, size};
+    return glint_bench_request(bench, GLINT_CONTAINER, GLINT_IOMMU_MAP_DMA, &map, sizeof map);
+}
+
+/* Removes every mapping inside the range. `removed`, if not null, gets the sum of their sizes; a refusal leaves it. */
+static inline glint_outcome glint_bench_unmap(glint_bench *bench, glint_device_address device, uint64_t size, uint64_t *removed)
+{
+    glint_dma_unmap unmap = {sizeof unmap, 0, device, size};
+    glint_outcome outcome = glint_bench_request(bench, GLINT_CONTAINER, GLINT_IOMMU_UNMAP_DMA, &unmap, sizeof unmap);
+    if (removed && !outcome.refused)
+        *removed = unmap.size;
+    return outcome;
+}
+
+static inline glint_outcome glint_bench_device_info(glint_bench *bench, glint_device_info *info)
+{
+    info->argsz = sizeof *info;
+    return glint_bench_request(bench, GLINT_DEVICE, GLINT_DEVICE_GET_INFO, info, sizeof *info);
+}
+
+static inline glint_outcome glint_bench_region_info(glint_bench *bench, uint32_t index, glint_region_info *info)
+{
+    info->argsz = sizeof *info;
+    info->index = index;
+    return glint_bench_request(bench, GLINT_DEVICE, GLINT_DEVICE_GET_REGION_INFO, info, sizeof *info);
+}
+
+static inline glint_outcome glint_bench_irq_info(glint_bench *bench, uint32_t index, glint_irq_info *info)
+{
+    info->argsz = sizeof *info;
+    info->index = index;
+    return glint_bench_request(bench, GLINT_DEVICE, GLINT_DEVICE_GET_IRQ_INFO, info, sizeof *info);
+}
+
+/* Resets the device's registers; it runs or stays stopped as before. */
+static inline glint_outcome glint_bench_reset(glint_bench *bench)
+{
+    return glint_bench_request(bench, GLINT_DEVICE, GLINT_DEVICE_RESET, NULL, 0);
+}
+
+/* ---- bytes */
+
+static inline glint_found glint_bench_look_up(const glint_bench *bench, glint_device_address device)
+{
+    return glint_look_up(bench->state, device.value);
+}
+
+static inline glint_outcome glint_bench_device_read(const glint_bench *bench, glint_device_address device, void *buffer, size_t length)
+{
+    return glint_device_read(bench->state, glint_bytes(bench->memory), bench->memory_length, glint_bytes(bench->marks),
+                             bench->marks_length, device.value, glint_bytes_mut(buffer), length);
+}
+
+static inline glint_outcome glint_bench_device_write(glint_bench *bench, glint_device_address device, const void *buffer, size_t length)
+{
+    return glint_device_write(bench->state, glint_bytes_mut(bench->memory), bench->memory_length, glint_bytes_mut(bench->marks),
+                              bench->marks_length, device.value, glint_bytes(buffer), length);
+}
+
+static inline glint_outcome glint_bench_host_write(glint_bench *bench, glint_memory_address address, const void *buffer, size_t length)
+{
+    return glint_host_write(bench->state, glint_bytes_mut(bench->memory), bench->memory_length, glint_bytes_mut(bench->marks),
+                            bench->marks_length, address.value, glint_bytes(buffer), length);
+}
+
+static inline glint_outcome glint_bench_host_read(const glint_bench *bench, glint_memory_address address, void *buffer, size_t length)
+{
+    return glint_host_read(bench->state, glint_bytes(bench->memory), bench->memory_length, glint_bytes(bench->marks),
+                           bench->marks_length, address.value, glint_bytes_mut(buffer), length);
+}
+
+static inline glint_outcome glint_bench_invalidate(glint_bench *bench, glint_memory_address address, uint64_t length)
+{
+    return glint_invalidate(bench->state, glint_bytes(bench->memory), bench->memory_length, glint_bytes_mut(bench->marks),
+                            bench->marks_length, address.value, length);
+}
+
+/* ---- registers and parts */
+
+static inline glint_outcome glint_bench_set_register(glint_bench *bench, uint64_t kind, uint64_t selector, const void *value,
+                                                     size_t length)
+{
+    glint_kept kept = glint_set_register(bench->state, kind, selector, glint_bytes(value), length);
+    return glint_bench_keep(bench, &kept);
+}
+
+static inline glint_outcome glint_bench_read_register(const glint_bench *bench, uint64_t kind, uint64_t selector, void *buffer,
+                                                      size_t length)
+{
+    return glint_read_register(bench->state, kind, selector, glint_bytes_mut(buffer), length);
+}
+
+static inline glint_outcome glint_bench_load_parts(glint_bench *bench, const void *stream, size_t length)
+{
+    glint_kept kept = glint_load_parts(bench->state, glint_bytes(stream), length);
+    return glint_bench_keep(bench, &kept);
+}
+
+static inline glint_outcome glint_bench_save_parts(const glint_bench *bench, void *buffer, size_t length)
+{
+    return glint_save_parts(bench->state, glint_bytes_mut(buffer), length);
+}
+
+static inline glint_outcome glint_bench_stop(glint_bench *bench)
+{
+    glint_kept kept = glint_stop(bench->state);
+    return glint_bench_keep(bench, &kept);
+}
+
+static inline glint_outcome glint_bench_start(glint_bench *bench)
+{
+    glint_kept kept = glint_start(bench->state);
+    return glint_bench_keep(bench, &kept);
+}
+
+/* A walker over a stream: it keeps hold of the stream and its place. */
+typedef struct glint_walker {
+    const uint8_t *stream;
+    size_t length;
+    size_t place;
+} glint_walker;
+
+static inline glint_walker glint_walk(const void *stream, size_t length)
+{
+    glint_walker walker = {glint_bytes(stream), length, 0};
+    return walker;
+}
+
+/* One step. `value` and `value_length` get the stretch of the stream that is the part's value; no bytes where there is no part. */
+static inline glint_part_step glint_walker_step(glint_walker *walker, const uint8_t **value, size_t *value_length)
+{
+    size_t start = walker->place + GLINT_PART_HEADER;
+    glint_part_step step = glint_step(walker->stream, walker->length, walker->place);
+    bool part = !step.refused && !step.end;
+    *value = part ? walker->stream + start : walker->stream;
+    *value_length = part ? (size_t)step.next - start : 0;
+    walker->place = (size_t)step.next;
+    return step;
+}
+
+#ifdef __cplusplus
+}
+#endif
+
+#endif
