@@ -1,0 +1,611 @@
+// A session from C over the static library, with the structs and request numbers of the machine's own <linux/vfio.h>.
+// The last line is 'N passed, M failed', over the tests in main.
+#include <linux/vfio.h>
+#include <stdio.h>
+#include <stdlib.h>
+#include <sys/ioctl.h>
+
+#include "glintbasket.h"
+
+// ---- the kernel's layout is the emulator's
+
+#define SAME_FIELD(kernel, field, ours, name, offset)                                                                                   \
+    _Static_assert(offsetof(struct kernel, field) == (offset) && offsetof(ours, name) == (offset) &&                                     \
+                       sizeof(((struct kernel *)0)->field) == sizeof(((ours *)0)->name),                                                \
+                   #kernel "." #field)
+
+_Static_assert(sizeof(struct vfio_iommu_type1_dma_map) == 32, "map");
+SAME_FIELD(vfio_iommu_type1_dma_map, argsz, glint_dma_map, argsz, 0);
+SAME_FIELD(vfio_iommu_type1_dma_map, flags, glint_dma_map, flags, 4);
+SAME_FIELD(vfio_iommu_type1_dma_map, vaddr, glint_dma_map, memory, 8);
+SAME_FIELD(vfio_iommu_type1_dma_map, iova, glint_dma_map, device, 16);
+SAME_FIELD(vfio_iommu_type1_dma_map, size, glint_dma_map, size, 24);
+
+_Static_assert(sizeof(struct vfio_iommu_type1_dma_unmap) == 24, "unmap");
+SAME_FIELD(vfio_iommu_type1_dma_unmap, argsz, glint_dma_unmap, argsz, 0);
+SAME_FIELD(vfio_iommu_type1_dma_unmap, flags, glint_dma_unmap, flags, 4);
+SAME_FIELD(vfio_iommu_type1_dma_unmap, iova, glint_dma_unmap, device, 8);
+SAME_FIELD(vfio_iommu_type1_dma_unmap, size, glint_dma_unmap, size, 16);
+
+// Later headers add capabilities behind the first 16 bytes.
+_Static_assert(sizeof(struct vfio_iommu_type1_info) >= 16, "iommu info");
+SAME_FIELD(vfio_iommu_type1_info, argsz, glint_iommu_info, argsz, 0);
+SAME_FIELD(vfio_iommu_type1_info, flags, glint_iommu_info, flags, 4);
+SAME_FIELD(vfio_iommu_type1_info, iova_pgsizes, glint_iommu_info, page_sizes, 8);
+
+_Static_assert(sizeof(struct vfio_device_info) >= 16, "device info");
+SAME_FIELD(vfio_device_info, argsz, glint_device_info, argsz, 0);
+SAME_FIELD(vfio_device_info, flags, glint_device_info, flags, 4);
+SAME_FIELD(vfio_device_info, num_regions, glint_device_info, regions, 8);
+SAME_FIELD(vfio_device_info, num_irqs, glint_device_info, irqs, 12);
+
+_Static_assert(sizeof(struct vfio_region_info) == 32, "region info");
+SAME_FIELD(vfio_region_info, argsz, glint_region_info, argsz, 0);
+SAME_FIELD(vfio_region_info, flags, glint_region_info, flags, 4);
+SAME_FIELD(vfio_region_info, index, glint_region_info, index, 8);
+SAME_FIELD(vfio_region_info, cap_offset, glint_region_info, reserved, 12);
+SAME_FIELD(vfio_region_info, size, glint_region_info, size, 16);
+SAME_FIELD(vfio_region_info, offset, glint_region_info, offset, 24);
+
+_Static_assert(sizeof(struct vfio_irq_info) == 16, "irq info");
+SAME_FIELD(vfio_irq_info, argsz, glint_irq_info, argsz, 0);
+SAME_FIELD(vfio_irq_info, flags, glint_irq_info, flags, 4);
+SAME_FIELD(vfio_irq_info, index, glint_irq_info, index, 8);
+SAME_FIELD(vfio_irq_info, count, glint_irq_info, count, 12);
+
+// A request's number is the low byte of the kernel's.
+_Static_assert(_IOC_NR(VFIO_GET_API_VERSION) == GLINT_GET_API_VERSION, "api version");
+_Static_assert(_IOC_NR(VFIO_CHECK_EXTENSION) == GLINT_CHECK_EXTENSION, "check extension");
+_Static_assert(_IOC_NR(VFIO_IOMMU_GET_INFO) == GLINT_IOMMU_GET_INFO, "iommu info");
+_Static_assert(_IOC_NR(VFIO_IOMMU_MAP_DMA) == GLINT_IOMMU_MAP_DMA, "map");
+_Static_assert(_IOC_NR(VFIO_IOMMU_UNMAP_DMA) == GLINT_IOMMU_UNMAP_DMA, "unmap");
+_Static_assert(_IOC_NR(VFIO_DEVICE_GET_INFO) == GLINT_DEVICE_GET_INFO, "device info");
+_Static_assert(_IOC_NR(VFIO_DEVICE_GET_REGION_INFO) == GLINT_DEVICE_GET_REGION_INFO, "region info");
+_Static_assert(_IOC_NR(VFIO_DEVICE_GET_IRQ_INFO) == GLINT_DEVICE_GET_IRQ_INFO, "irq info");
+_Static_assert(_IOC_NR(VFIO_DEVICE_RESET) == GLINT_DEVICE_RESET, "reset");
+_Static_assert(VFIO_TYPE1v2_IOMMU == GLINT_TYPE1V2_IOMMU, "extension");
+_Static_assert(VFIO_DMA_MAP_FLAG_READ == GLINT_READ && VFIO_DMA_MAP_FLAG_WRITE == GLINT_WRITE, "rights");
+
+// ---- checks
+
+static unsigned faults;
+
+static void check(bool holds, const char *what, int line)
+{
+    if (holds)
+        return;
+    fprintf(stderr, "session.c:%d: does not hold: %s\n", line, what);
+    faults++;
+}
+
+static void check_outcome(glint_outcome is, glint_outcome want, int line)
+{
+    if (is.refused == want.refused && is.code == want.code && is.place == want.place && is.result == want.result)
+        return;
+    fprintf(stderr, "session.c:%d: refused %d code %u (%s) place %llu result %llu, not refused %d code %u (%s) place %llu result %llu\n",
+            line, is.refused, is.code, glint_refusal_name(is.code), (unsigned long long)is.place, (unsigned long long)is.result,
+            want.refused, want.code, glint_refusal_name(want.code), (unsigned long long)want.place, (unsigned long long)want.result);
+    faults++;
+}
+
+#define CHECK(condition) check((condition), #condition, __LINE__)
+#define CHECK_BYTES(is, want, length) check(memcmp((is), (want), (length)) == 0, #is " is " #want, __LINE__)
+#define CHECK_DONE(is, value) check_outcome((is), (glint_outcome){.result = (value)}, __LINE__)
+#define CHECK_REFUSED(is, number, at) check_outcome((is), (glint_outcome){.refused = true, .code = (number), .place = (at)}, __LINE__)
+
+// ---- lent bytes with a fence on both sides: the library is not built with the sanitizer, so its stores are looked for here
+
+enum { FENCE = 64, ROOM = 3 * 4096, FILLER = 0xa5 };
+
+struct fenced {
+    uint8_t all[FENCE + ROOM + FENCE];
+    size_t length;
+};
+
+static uint8_t *fenced_bytes(struct fenced *fenced)
+{
+    return fenced->all + FENCE;
+}
+
+static uint8_t *fill(struct fenced *fenced, size_t length)
+{
+    memset(fenced->all, FILLER, sizeof fenced->all);
+    fenced->length = length;
+    return fenced_bytes(fenced);
+}
+
+static uint8_t *lend(struct fenced *fenced, const void *bytes, size_t length)
+{
+    memcpy(fill(fenced, length), bytes, length);
+    return fenced_bytes(fenced);
+}
+
+static bool all_filler(const uint8_t *bytes, size_t length)
+{
+    for (size_t i = 0; i < length; i++)
+        if (bytes[i] != FILLER)
+            return false;
+    return true;
+}
+
+static bool fence_holds(const struct fenced *fenced)
+{
+    size_t end = FENCE + fenced->length;
+    return all_filler(fenced->all, FENCE) && all_filler(fenced->all + end, sizeof fenced->all - end);
+}
+
+// ---- the bench of a test: three pages
+
+enum { PAGE = 4096 };
+
+static struct fenced memory, marks, buffer;
+static glint_bench bench;
+
+static void fresh_bench(void)
+{
+    uint8_t *bytes = fill(&memory, ROOM);
+    glint_outcome outcome = glint_bench_init(&bench, bytes, fill(&marks, ROOM), ROOM);
+    CHECK_DONE(outcome, 0);
+}
+
+// A request with the kernel's struct, in a fenced buffer; the struct is then what the buffer holds.
+static glint_outcome request(uint32_t target, unsigned long kernel_number, void *arg, size_t length)
+{
+    uint8_t *bytes = lend(&buffer, arg, length);
+    glint_outcome outcome = glint_bench_request(&bench, target, _IOC_NR(kernel_number), bytes, length);
+    CHECK(fence_holds(&buffer));
+    memcpy(arg, bytes, length);
+    return outcome;
+}
+
+static glint_outcome map(uint64_t vaddr, uint64_t iova, uint64_t size, uint32_t flags)
+{
+    struct vfio_iommu_type1_dma_map arg = {.argsz = sizeof arg, .flags = flags, .vaddr = vaddr, .iova = iova, .size = size};
+    struct vfio_iommu_type1_dma_map given = arg;
+    glint_outcome outcome = request(GLINT_CONTAINER, VFIO_IOMMU_MAP_DMA, &arg, sizeof arg);
+    CHECK_BYTES(&arg, &given, sizeof arg);
+    return outcome;
+}
+
+// The buffer's length is the kernel's size; `removed` is its size field afterwards.
+static glint_outcome unmap(uint64_t iova, uint64_t size, uint64_t *removed)
+{
+    struct vfio_iommu_type1_dma_unmap arg = {.argsz = sizeof arg, .iova = iova, .size = size};
+    glint_outcome outcome = request(GLINT_CONTAINER, VFIO_IOMMU_UNMAP_DMA, &arg, sizeof arg);
+    CHECK(arg.argsz == sizeof arg && arg.flags == 0 && arg.iova == iova);
+    *removed = arg.size;
+    return outcome;
+}
+
+static glint_outcome device_read(uint64_t iova, size_t length)
+{
+    glint_outcome outcome = glint_bench_device_read(&bench, glint_device(iova), fill(&buffer, length), length);
+    CHECK(fence_holds(&buffer));
+    return outcome;
+}
+
+static bool marked(size_t from, size_t to, uint8_t mark)
+{
+    for (size_t i = from; i < to; i++)
+        if (fenced_bytes(&marks)[i] != mark)
+            return false;
+    return true;
+}
+
+// ---- tests
+
+static void power_on(void)
+{
+    fresh_bench();
+    CHECK(bench.state.memory_length == ROOM);
+    CHECK(bench.state.table.count == 0);
+    CHECK(!bench.state.running);
+    CHECK(marked(0, ROOM, 0));
+    CHECK(all_filler(fenced_bytes(&memory), ROOM));
+
+    CHECK_DONE(map(0, 0, PAGE, GLINT_READ), 0);
+    CHECK_DONE(glint_bench_host_write(&bench, glint_memory(5), "x", 1), 0);
+    CHECK_DONE(glint_bench_start(&bench), 0);
+    CHECK_DONE(glint_bench_power_on(&bench), 0);
+    CHECK(bench.state.table.count == 0);
+    CHECK(!bench.state.running);
+    CHECK(marked(0, ROOM, 0));
+    CHECK(fenced_bytes(&memory)[5] == 'x');
+}
+
+static void bad_bench(void)
+{
+    fresh_bench();
+    bench.marks_length--;
+    CHECK_REFUSED(glint_bench_power_on(&bench), GLINT_BAD_BENCH, 0);
+    CHECK_REFUSED(device_read(0, 0), GLINT_BAD_BENCH, 0);
+    bench.memory_length--;
+    CHECK_REFUSED(device_read(0, 0), GLINT_BAD_BENCH, 0);
+    CHECK_DONE(glint_bench_power_on(&bench), 0);
+    CHECK_DONE(device_read(0, 0), 0);
+
+    glint_state sound = bench.state;
+    bench.state.table.count = GLINT_MAPPINGS + 1;
+    CHECK_REFUSED(glint_bench_stop(&bench), GLINT_BAD_BENCH, 0);
+    CHECK(bench.state.table.count == GLINT_MAPPINGS + 1);
+    CHECK_REFUSED(glint_bench_look_up(&bench, glint_device(0)).outcome, GLINT_BAD_BENCH, 0);
+    bench.state = sound;
+    bench.state.registers.slots[5].set = false;
+    CHECK_REFUSED(glint_bench_save_parts(&bench, fill(&buffer, 64), 64), GLINT_BAD_BENCH, 0);
+    CHECK(all_filler(buffer.all, sizeof buffer.all));
+}
+
+static void container(void)
+{
+    fresh_bench();
+    CHECK_DONE(glint_bench_request(&bench, GLINT_CONTAINER, _IOC_NR(VFIO_GET_API_VERSION), NULL, 0), VFIO_API_VERSION);
+    uint32_t extension = VFIO_TYPE1v2_IOMMU;
+    CHECK_DONE(request(GLINT_CONTAINER, VFIO_CHECK_EXTENSION, &extension, sizeof extension), 1);
+    extension = VFIO_TYPE1_IOMMU;
+    CHECK_DONE(request(GLINT_CONTAINER, VFIO_CHECK_EXTENSION, &extension, sizeof extension), 0);
+    CHECK_REFUSED(request(GLINT_CONTAINER, VFIO_CHECK_EXTENSION, &extension, 3), GLINT_SHORT, 0);
+    CHECK_REFUSED(request(GLINT_DEVICE, VFIO_CHECK_EXTENSION, &extension, sizeof extension), GLINT_NO_SUCH_REQUEST, 0);
+    CHECK_REFUSED(request(2, VFIO_GET_API_VERSION, &extension, sizeof extension), GLINT_NO_SUCH_REQUEST, 0);
+}
+
+static void iommu_info(void)
+{
+    fresh_bench();
+    struct vfio_iommu_type1_info info, given;
+    memset(&info, FILLER, sizeof info);
+    info.argsz = sizeof info;
+    given = info;
+    CHECK_DONE(request(GLINT_CONTAINER, VFIO_IOMMU_GET_INFO, &info, sizeof info), 0);
+    CHECK(info.argsz == sizeof info);
+    CHECK(info.flags == VFIO_IOMMU_INFO_PGSIZES);
+    CHECK(info.iova_pgsizes == PAGE);
+    CHECK_BYTES((uint8_t *)&info + 16, (uint8_t *)&given + 16, sizeof info - 16);
+
+    info = given;
+    info.argsz = 15;
+    CHECK_REFUSED(request(GLINT_CONTAINER, VFIO_IOMMU_GET_INFO, &info, sizeof info), GLINT_ARG_SIZE, 0);
+    info.argsz = sizeof info + 1;
+    CHECK_REFUSED(request(GLINT_CONTAINER, VFIO_IOMMU_GET_INFO, &info, sizeof info), GLINT_ARG_SIZE, 0);
+    CHECK_BYTES((uint8_t *)&info + 4, (uint8_t *)&given + 4, sizeof info - 4);
+
+    glint_iommu_info ours;
+    CHECK_DONE(glint_bench_iommu_info(&bench, &ours), 0);
+    CHECK(ours.argsz == 16 && ours.flags == 1 && ours.page_sizes == PAGE);
+}
+
+static void map_and_look_up(void)
+{
+    const uint64_t top = GLINT_DEVICE_LIMIT - PAGE;
+    fresh_bench();
+    CHECK_DONE(map(PAGE, top, PAGE, VFIO_DMA_MAP_FLAG_READ | VFIO_DMA_MAP_FLAG_WRITE), 0);
+    CHECK(bench.state.table.count == 1);
+    CHECK(bench.state.table.entries[0].device.value == top);
+    CHECK(bench.state.table.entries[0].memory.value == PAGE);
+    CHECK(bench.state.table.entries[0].size == PAGE);
+    CHECK(bench.state.table.entries[0].rights == 3);
+
+    glint_found found = glint_bench_look_up(&bench, glint_device(top + 7));
+    CHECK_DONE(found.outcome, 0);
+    CHECK(found.address.value == PAGE + 7 && found.rights == 3);
+    CHECK_REFUSED(glint_bench_look_up(&bench, glint_device(top - 1)).outcome, GLINT_UNMAPPED, 0);
+    CHECK_REFUSED(glint_bench_look_up(&bench, glint_device(GLINT_DEVICE_LIMIT)).outcome, GLINT_RANGE, 0);
+
+    glint_state before = bench.state;
+    CHECK_REFUSED(map(0, 0, PAGE, 0), GLINT_FLAGS, 0);
+    CHECK_REFUSED(map(0, 0, PAGE, VFIO_DMA_MAP_FLAG_READ | VFIO_DMA_MAP_FLAG_VADDR), GLINT_FLAGS, 0);
+    CHECK_REFUSED(map(0, 1, 0, GLINT_READ), GLINT_EMPTY, 0);
+    CHECK_REFUSED(map(0, 1, PAGE, GLINT_READ), GLINT_UNALIGNED, 0);
+    CHECK_REFUSED(map(0, top, 2 * PAGE, GLINT_READ), GLINT_RANGE, 0);
+    CHECK_REFUSED(map(2 * PAGE, 0, 2 * PAGE, GLINT_READ), GLINT_RANGE, 0);
+    CHECK_REFUSED(map(0, UINT64_C(0xfffffffffffff000), PAGE, GLINT_READ), GLINT_RANGE, 0);
+    CHECK_REFUSED(map(0, top - PAGE, 2 * PAGE, GLINT_READ), GLINT_OVERLAP, 0);
+    CHECK_BYTES(&bench.state, &before, sizeof before);
+}
+
+static void table_full(void)
+{
+    fresh_bench();
+    for (uint64_t i = 0; i < GLINT_MAPPINGS; i++)
+        CHECK_DONE(map(0, (GLINT_MAPPINGS - i) * 2 * PAGE, PAGE, GLINT_READ), 0);
+    CHECK_REFUSED(map(0, 0, PAGE, GLINT_READ), GLINT_NO_ROOM, 0);
+    uint64_t removed;
+    CHECK_DONE(unmap(2 * PAGE, PAGE, &removed), 0);
+    CHECK(removed == PAGE);
+    CHECK_DONE(map(0, 0, PAGE, GLINT_READ), 0);
+    CHECK(bench.state.table.count == GLINT_MAPPINGS);
+}
+
+static void unmap_ranges(void)
+{
+    uint64_t removed;
+    fresh_bench();
+    CHECK_DONE(map(0, 0, 2 * PAGE, GLINT_READ), 0);
+    CHECK_DONE(map(0, 2 * PAGE, PAGE, GLINT_READ), 0);
+    CHECK_REFUSED(unmap(PAGE, 2 * PAGE, &removed), GLINT_CUTS, 0);
+    CHECK(removed == 2 * PAGE); // the size field as it was given
+    CHECK(bench.state.table.count == 2);
+    CHECK_REFUSED(unmap(1, 0, &removed), GLINT_EMPTY, 0);
+    CHECK_DONE(unmap(0, 3 * PAGE, &removed), 0);
+    CHECK(removed == 3 * PAGE);
+    CHECK(bench.state.table.count == 0);
+    CHECK_DONE(unmap(0, 3 * PAGE, &removed), 0);
+    CHECK(removed == 0);
+
+    CHECK_DONE(glint_bench_map(&bench, glint_memory(0), glint_device(PAGE), PAGE, GLINT_WRITE), 0);
+    removed = 1;
+    CHECK_REFUSED(glint_bench_unmap(&bench, glint_device(PAGE + 1), PAGE, &removed), GLINT_UNALIGNED, 0);
+    CHECK(removed == 1);
+    CHECK_DONE(glint_bench_unmap(&bench, glint_device(PAGE), PAGE, &removed), 0);
+    CHECK(removed == PAGE);
+}
+
+static void device_reads(void)
+{
+    fresh_bench();
+    CHECK_DONE(map(PAGE, 0x10000, PAGE, GLINT_READ), 0);
+    CHECK_DONE(map(0, 0x11000, PAGE, GLINT_WRITE), 0);
+    CHECK_DONE(glint_bench_host_write(&bench, glint_memory(PAGE), "ab", 2), 0);
+    CHECK_BYTES(fenced_bytes(&memory) + PAGE, "ab", 2);
+    CHECK(all_filler(fenced_bytes(&memory), PAGE) && all_filler(fenced_bytes(&memory) + PAGE + 2, ROOM - PAGE - 2));
+    CHECK(marked(0, PAGE, 0) && marked(PAGE, PAGE + 2, 1) && marked(PAGE + 2, ROOM, 0));
+
+    CHECK_DONE(device_read(0x10000, 2), 0);
+    CHECK_BYTES(fenced_bytes(&buffer), "ab", 2);
+    CHECK_REFUSED(device_read(0x10001, 2), GLINT_UNWRITTEN, 1);
+    CHECK(all_filler(buffer.all, sizeof buffer.all));
+    CHECK_REFUSED(device_read(0x11000, 1), GLINT_NO_RIGHT, 0);
+    CHECK_REFUSED(device_read(0x12000, 1), GLINT_UNMAPPED, 0);
+    CHECK_REFUSED(device_read(GLINT_DEVICE_LIMIT, 1), GLINT_RANGE, 0);
+    CHECK_DONE(device_read(GLINT_DEVICE_LIMIT, 0), 0);
+
+    // Written up to the mapping's end: the first offset behind it has no right to be read.
+    uint8_t page[PAGE] = {0};
+    CHECK_DONE(glint_bench_host_write(&bench, glint_memory(PAGE), page, PAGE), 0);
+    CHECK_REFUSED(device_read(0x10000, PAGE + 1), GLINT_NO_RIGHT, PAGE);
+}
+
+static void device_writes(void)
+{
+    fresh_bench();
+    CHECK_DONE(map(0, 0, PAGE, GLINT_WRITE), 0);
+    CHECK_DONE(map(0, PAGE, PAGE, GLINT_WRITE), 0);
+    CHECK_REFUSED(glint_bench_device_write(&bench, glint_device(2 * PAGE - 1), "xy", 2), GLINT_UNMAPPED, 1);
+    CHECK(all_filler(fenced_bytes(&memory), ROOM) && marked(0, ROOM, 0));
+
+    // Both mappings show memory's first page, so offset 4096 is stored over offset 0.
+    uint8_t bytes[PAGE + 1];
+    memset(bytes, 'a', sizeof bytes);
+    bytes[PAGE] = 'z';
+    CHECK_DONE(glint_bench_device_write(&bench, glint_device(0), bytes, sizeof bytes), 0);
+    CHECK(fenced_bytes(&memory)[0] == 'z');
+    CHECK_BYTES(fenced_bytes(&memory) + 1, bytes + 1, PAGE - 1);
+    CHECK(all_filler(fenced_bytes(&memory) + PAGE, ROOM - PAGE));
+    CHECK(marked(0, PAGE, 1) && marked(PAGE, ROOM, 0));
+    CHECK_REFUSED(device_read(0, 1), GLINT_NO_RIGHT, 0);
+}
+
+static void host_loads(void)
+{
+    fresh_bench();
+    CHECK_DONE(glint_bench_host_write(&bench, glint_memory(ROOM - 3), "end", 3), 0);
+    CHECK_REFUSED(glint_bench_host_write(&bench, glint_memory(ROOM - 2), "end", 3), GLINT_RANGE, 0);
+    CHECK_DONE(glint_bench_host_read(&bench, glint_memory(ROOM - 3), fill(&buffer, 3), 3), 0);
+    CHECK_BYTES(fenced_bytes(&buffer), "end", 3);
+    CHECK(fence_holds(&buffer));
+    CHECK_DONE(glint_bench_invalidate(&bench, glint_memory(ROOM - 2), 1), 0);
+    CHECK_REFUSED(glint_bench_host_read(&bench, glint_memory(ROOM - 3), fill(&buffer, 3), 3), GLINT_UNWRITTEN, 1);
+    CHECK(all_filler(buffer.all, sizeof buffer.all));
+    CHECK_BYTES(fenced_bytes(&memory) + ROOM - 3, "end", 3);
+    CHECK_REFUSED(glint_bench_invalidate(&bench, glint_memory(1), UINT64_MAX), GLINT_RANGE, 0);
+
+    static uint8_t long_bytes[GLINT_TRANSFER_LIMIT + 1];
+    CHECK_REFUSED(glint_bench_host_write(&bench, glint_memory(0), long_bytes, sizeof long_bytes), GLINT_TOO_LONG, 0);
+}
+
+static void device_info(void)
+{
+    fresh_bench();
+    struct vfio_device_info info, given;
+    memset(&info, FILLER, sizeof info);
+    info.argsz = sizeof info;
+    given = info;
+    CHECK_DONE(request(GLINT_DEVICE, VFIO_DEVICE_GET_INFO, &info, sizeof info), 0);
+    CHECK(info.flags == (VFIO_DEVICE_FLAGS_RESET | VFIO_DEVICE_FLAGS_PCI));
+    CHECK(info.num_regions == 9 && info.num_irqs == 4);
+    CHECK_BYTES((uint8_t *)&info + 16, (uint8_t *)&given + 16, sizeof info - 16);
+
+    glint_device_info ours;
+    CHECK_DONE(glint_bench_device_info(&bench, &ours), 0);
+    CHECK(ours.argsz == 16 && ours.flags == 3 && ours.regions == 9 && ours.irqs == 4);
+}
+
+static void region_info(void)
+{
+    static const uint8_t config[32] = {0x20, 0, 0, 0, 3, 0, 0, 0, 7, 0, 0, 0, 0, 0, 0, 0, 0, 1, [29] = 7};
+    fresh_bench();
+    struct vfio_region_info info;
+    memset(&info, FILLER, sizeof info);
+    info.argsz = sizeof info;
+    info.index = VFIO_PCI_CONFIG_REGION_INDEX;
+    CHECK_DONE(request(GLINT_DEVICE, VFIO_DEVICE_GET_REGION_INFO, &info, sizeof info), 0);
+    CHECK_BYTES(&info, config, sizeof config);
+
+    glint_region_info ours;
+    CHECK_DONE(glint_bench_region_info(&bench, VFIO_PCI_BAR0_REGION_INDEX, &ours), 0);
+    CHECK(ours.flags == 7 && ours.reserved == 0 && ours.size == 0x4000 && ours.offset == 0);
+    CHECK_DONE(glint_bench_region_info(&bench, VFIO_PCI_VGA_REGION_INDEX, &ours), 0);
+    CHECK(ours.flags == 0 && ours.size == 0 && ours.offset == UINT64_C(8) << 40);
+    CHECK_REFUSED(glint_bench_region_info(&bench, 9, &ours), GLINT_INDEX, 0);
+}
+
+static void irq_info(void)
+{
+    static const struct {
+        uint32_t flags, count;
+    } irqs[] = {{7, 1}, {9, 8}, {9, 16}, {0, 0}};
+    fresh_bench();
+    for (uint32_t index = 0; index < 4; index++) {
+        struct vfio_irq_info info = {.argsz = sizeof info, .flags = 0xffffffff, .index = index, .count = 0xffffffff};
+        CHECK_DONE(request(GLINT_DEVICE, VFIO_DEVICE_GET_IRQ_INFO, &info, sizeof info), 0);
+        CHECK(info.argsz == sizeof info && info.index == index);
+        CHECK(info.flags == irqs[index].flags && info.count == irqs[index].count);
+    }
+    glint_irq_info ours;
+    CHECK_REFUSED(glint_bench_irq_info(&bench, 4, &ours), GLINT_INDEX, 0);
+    CHECK_DONE(glint_bench_irq_info(&bench, 2, &ours), 0);
+    CHECK(ours.flags == 9 && ours.count == 16);
+}
+
+static void registers(void)
+{
+    fresh_bench();
+    uint8_t queue[32] = {[1] = 1, [4] = 1}; // size 256, enabled
+    CHECK_DONE(glint_bench_set_register(&bench, GLINT_QUEUE_CONFIG, 3, queue, sizeof queue), 0);
+    CHECK_DONE(glint_bench_read_register(&bench, GLINT_QUEUE_CONFIG, 3, fill(&buffer, 40), 40), 32);
+    CHECK_BYTES(fenced_bytes(&buffer), queue, sizeof queue);
+    CHECK(all_filler(fenced_bytes(&buffer) + 32, 8) && fence_holds(&buffer));
+    CHECK_REFUSED(glint_bench_read_register(&bench, GLINT_QUEUE_CONFIG, 3, fill(&buffer, 31), 31), GLINT_NO_SPACE, 0);
+    CHECK(all_filler(buffer.all, sizeof buffer.all));
+    CHECK_REFUSED(glint_bench_read_register(&bench, GLINT_QUEUE_CONFIG, 2, fill(&buffer, 40), 40), GLINT_UNSET, 0);
+    CHECK_REFUSED(glint_bench_read_register(&bench, GLINT_QUEUE_CONFIG, 4, fill(&buffer, 40), 40), GLINT_INDEX, 0);
+
+    queue[0] = 3;
+    CHECK_REFUSED(glint_bench_set_register(&bench, GLINT_QUEUE_CONFIG, 0, queue, sizeof queue), GLINT_VALUE, 0);
+    CHECK_REFUSED(glint_bench_set_register(&bench, GLINT_DEVICE_STATUS, 1, "s", 1), GLINT_HEADER, 0);
+    CHECK_REFUSED(glint_bench_set_register(&bench, 0x106, 0, "s", 1), GLINT_UNKNOWN_PART, 0);
+    CHECK_REFUSED(glint_bench_set_register(&bench, GLINT_OFFERED_FEATURES, 0, queue, 8), GLINT_READ_ONLY, 0);
+    CHECK_REFUSED(glint_bench_set_register(&bench, GLINT_DRIVER_FEATURES, 0, queue, 8), GLINT_MISMATCH, 0);
+
+    CHECK_DONE(glint_bench_set_register(&bench, GLINT_DEVICE_STATUS, 0, "\x0f", 1), 0);
+    CHECK_DONE(glint_bench_start(&bench), 0);
+    CHECK_DONE(glint_bench_request(&bench, GLINT_DEVICE, _IOC_NR(VFIO_DEVICE_RESET), NULL, 0), 0);
+    CHECK(bench.state.running);
+    CHECK_DONE(glint_bench_read_register(&bench, GLINT_DEVICE_STATUS, 0, fill(&buffer, 1), 1), 1);
+    CHECK(fenced_bytes(&buffer)[0] == 0);
+    CHECK_REFUSED(glint_bench_read_register(&bench, GLINT_QUEUE_CONFIG, 3, fill(&buffer, 40), 40), GLINT_UNSET, 0);
+}
+
+static const uint8_t reset_saved[41] = {0, 1, 1, [12] = 8, [19] = 0x30, 1, [24] = 3, 1, [36] = 1};
+
+static void save_and_load(void)
+{
+    fresh_bench();
+    CHECK_REFUSED(glint_bench_save_parts(&bench, fill(&buffer, 40), 40), GLINT_NO_SPACE, 0);
+    CHECK(all_filler(buffer.all, sizeof buffer.all));
+    CHECK_DONE(glint_bench_save_parts(&bench, fill(&buffer, GLINT_SAVED_MAX), GLINT_SAVED_MAX), 41);
+    CHECK_BYTES(fenced_bytes(&buffer), reset_saved, sizeof reset_saved);
+    CHECK(all_filler(fenced_bytes(&buffer) + 41, GLINT_SAVED_MAX - 41) && fence_holds(&buffer));
+
+    CHECK_DONE(glint_bench_set_register(&bench, GLINT_COMMON_FIELD, 22, "\x01\x02", 2), 0);
+    CHECK_DONE(glint_bench_load_parts(&bench, reset_saved, sizeof reset_saved), 0);
+    CHECK_REFUSED(glint_bench_read_register(&bench, GLINT_COMMON_FIELD, 22, fill(&buffer, 2), 2), GLINT_UNSET, 0);
+
+    uint8_t twice[34];
+    memcpy(twice, reset_saved + 24, 17);
+    memcpy(twice + 17, reset_saved + 24, 17);
+    CHECK_REFUSED(glint_bench_load_parts(&bench, twice, sizeof twice), GLINT_TWICE, 17);
+    CHECK_DONE(glint_bench_load_parts(&bench, twice, 17), 0);
+    CHECK_REFUSED(glint_bench_load_parts(&bench, NULL, 0), GLINT_MISSING, 0);
+    CHECK_REFUSED(glint_bench_load_parts(&bench, reset_saved, 40), GLINT_TRUNCATED, 24);
+
+    CHECK_DONE(glint_bench_start(&bench), 0);
+    CHECK_REFUSED(glint_bench_load_parts(&bench, twice, 17), GLINT_RUNNING, 0);
+    CHECK_REFUSED(glint_bench_save_parts(&bench, fill(&buffer, 64), 64), GLINT_RUNNING, 0);
+    CHECK_DONE(glint_bench_stop(&bench), 0);
+    CHECK_DONE(glint_bench_save_parts(&bench, fill(&buffer, 64), 64), 41);
+}
+
+static void steps(void)
+{
+    const uint8_t *value;
+    size_t length;
+    glint_walker walker = glint_walk(reset_saved, sizeof reset_saved);
+    glint_part_step step = glint_walker_step(&walker, &value, &length);
+    CHECK(!step.refused && !step.end && step.code == 0 && step.place == 0);
+    CHECK(step.kind == GLINT_OFFERED_FEATURES && step.flags == 1 && step.selector == 0 && step.next == 24);
+    CHECK(value == reset_saved + 16 && length == 8);
+    step = glint_walker_step(&walker, &value, &length);
+    CHECK(step.kind == GLINT_DEVICE_STATUS && step.flags == 0 && step.next == 41);
+    CHECK(value == reset_saved + 40 && length == 1);
+    for (int again = 0; again < 2; again++) {
+        step = glint_walker_step(&walker, &value, &length);
+        CHECK(step.end && !step.refused && step.next == 41 && length == 0);
+    }
+
+    walker = glint_walk(reset_saved, 40);
+    walker.place = 24;
+    for (int again = 0; again < 2; again++) {
+        step = glint_walker_step(&walker, &value, &length);
+        CHECK(step.refused && !step.end && step.code == GLINT_TRUNCATED && step.place == 24);
+    }
+    step = glint_step(reset_saved, 41, 42);
+    CHECK(step.refused && step.code == GLINT_TRUNCATED && step.place == 42);
+    step = glint_step(reset_saved, 41, SIZE_MAX);
+    CHECK(step.refused && step.code == GLINT_TRUNCATED && step.place == SIZE_MAX);
+
+    uint8_t part[16] = {4, 1, 0, 0, 1, 2, 3, 4, 5, 6, 7, 8};
+    step = glint_step(part, sizeof part, 0);
+    CHECK(!step.refused && step.kind == GLINT_QUEUE_CONFIG && step.selector == UINT64_C(0x0807060504030201) && step.next == 16);
+    part[2] = 2;
+    step = glint_step(part, sizeof part, 0);
+    CHECK(step.refused && step.code == GLINT_HEADER && step.place == 0);
+}
+
+static void no_memory(void)
+{
+    static glint_bench empty;
+    CHECK_DONE(glint_bench_init(&empty, NULL, NULL, 0), 0);
+    CHECK_DONE(glint_bench_host_write(&empty, glint_memory(0), NULL, 0), 0);
+    CHECK_DONE(glint_bench_host_read(&empty, glint_memory(0), NULL, 0), 0);
+    CHECK_DONE(glint_bench_device_write(&empty, glint_device(0), NULL, 0), 0);
+    CHECK_REFUSED(glint_bench_host_write(&empty, glint_memory(0), "x", 1), GLINT_RANGE, 0);
+    CHECK_REFUSED(glint_bench_map(&empty, glint_memory(0), glint_device(0), PAGE, GLINT_READ), GLINT_RANGE, 0);
+    CHECK_REFUSED(glint_bench_set_register(&empty, GLINT_DEVICE_STATUS, 0, NULL, 0), GLINT_VALUE, 0);
+    CHECK_DONE(glint_bench_reset(&empty), 0);
+    CHECK_DONE(glint_bench_api_version(&empty), 0);
+    CHECK_DONE(glint_bench_check_extension(&empty, GLINT_TYPE1V2_IOMMU), 1);
+    const uint8_t *value;
+    size_t length;
+    glint_walker walker = glint_walk(NULL, 0);
+    CHECK(glint_walker_step(&walker, &value, &length).end);
+}
+
+static void refusal_names(void)
+{
+    CHECK(strcmp(glint_refusal_name(GLINT_BAD_BENCH), "BadBench") == 0);
+    CHECK(strcmp(glint_refusal_name(GLINT_UNALIGNED), "Unaligned") == 0);
+    CHECK(strcmp(glint_refusal_name(GLINT_UNMAPPED), "Unmapped") == 0);
+    CHECK(strcmp(glint_refusal_name(GLINT_UNWRITTEN), "Unwritten") == 0);
+    CHECK(strcmp(glint_refusal_name(GLINT_TWICE), "Twice") == 0);
+    CHECK(strcmp(glint_refusal_name(GLINT_NO_SPACE), "NoSpace") == 0);
+    CHECK(strcmp(glint_refusal_name(0), "?") == 0);
+    CHECK(strcmp(glint_refusal_name(28), "?") == 0);
+}
+
+#define TEST(name) {#name, name}
+
+int main(void)
+{
+    static const struct {
+        const char *name;
+        void (*run)(void);
+    } tests[] = {
+        TEST(power_on),     TEST(bad_bench),     TEST(container),  TEST(iommu_info),  TEST(map_and_look_up), TEST(table_full),
+        TEST(unmap_ranges), TEST(device_reads),  TEST(device_writes), TEST(host_loads), TEST(device_info),   TEST(region_info),
+        TEST(irq_info),     TEST(registers),     TEST(save_and_load), TEST(steps),      TEST(no_memory),     TEST(refusal_names),
+    };
+    const unsigned count = sizeof tests / sizeof *tests;
+    unsigned failed = 0;
+    for (unsigned i = 0; i < count; i++) {
+        unsigned before = faults;
+        tests[i].run();
+        // Whatever a test did, nothing around memory and marks was written.
+        CHECK(fence_holds(&memory) && fence_holds(&marks));
+        if (faults > before) {
+            fprintf(stderr, "failed: %s\n", tests[i].name);
+            failed++;
+        }
+    }
+    printf("%u passed, %u failed\n", count - failed, failed);
+    return failed == 0 ? EXIT_SUCCESS : EXIT_FAILURE;
+}
