@@ -1,0 +1,301 @@
+//! The bench: memory, marks and state, and every call on them.
+
+use crate::address::{DeviceAddress, MemoryAddress, Rights};
+use crate::error::Result;
+use crate::ffi::{self, Kept, Mapping, State};
+use std::fmt;
+use std::ops::{Deref, DerefMut};
+
+/// Bytes that a bench works on: lent to it, or its own.
+enum Bytes<'m> {
+    Lent(&'m mut [u8]),
+    Owned(Vec<u8>),
+}
+
+impl Deref for Bytes<'_> {
+    type Target = [u8];
+
+    fn deref(&self) -> &[u8] {
+        match self {
+            Bytes::Lent(bytes) => bytes,
+            Bytes::Owned(bytes) => bytes,
+        }
+    }
+}
+
+impl DerefMut for Bytes<'_> {
+    fn deref_mut(&mut self) -> &mut [u8] {
+        match self {
+            Bytes::Lent(bytes) => bytes,
+            Bytes::Owned(bytes) => bytes,
+        }
+    }
+}
+
+/// The target of a request.
+///
+/// Any number can be asked for; a request on another target than these two is refused with
+/// [`NoSuchRequest`](crate::Refusal::NoSuchRequest).
+#[derive(Clone, Copy, Debug, PartialEq, Eq, Hash)]
+pub struct Target(pub u32);
+
+impl Target {
+    /// The container.
+    pub const CONTAINER: Target = Target(0);
+    /// The device.
+    pub const DEVICE: Target = Target(1);
+}
+
+/// Where a device address lies: what [`Bench::look_up`] gives.
+#[derive(Clone, Copy, Debug, PartialEq, Eq, Hash)]
+pub struct Location {
+    /// The memory address that it shows.
+    pub address: MemoryAddress,
+    /// The rights of the mapping that holds it.
+    pub rights: Rights,
+}
+
+/// The host side of VFIO, with one device: memory with a mark for each byte that somebody wrote, a table of DMA mappings, and the
+/// device's registers.
+///
+/// Every call answers exactly by the rules. A refused one changes nothing: no byte of memory, marks or buffer, nor the state.
+pub struct Bench<'m> {
+    memory: Bytes<'m>,
+    marks: Bytes<'m>,
+    state: State,
+}
+
+/// A [`Bench`] that owns its memory and marks.
+pub type OwnedBench = Bench<'static>;
+
+impl OwnedBench {
+    /// A fresh start on memory that the bench then owns. The bytes stay as they are, and none counts as written.
+    ///
+    /// Refused: `BadBench` for more than 2^30 bytes.
+    pub fn with_memory(memory: Vec<u8>) -> Result<OwnedBench> {
+        let marks = vec![0; memory.len()];
+        let mut bench = Bench {
+            memory: Bytes::Owned(memory),
+            marks: Bytes::Owned(marks),
+            state: State::blank(),
+        };
+        bench.power_on()?;
+        Ok(bench)
+    }
+}
+
+impl<'m> Bench<'m> {
+    /// A fresh start on lent memory and marks. Memory bytes stay as they are; all marks become 0.
+    ///
+    /// Refused: `BadBench` if the two differ in length or exceed 2^30 bytes.
+    pub fn new(memory: &'m mut [u8], marks: &'m mut [u8]) -> Result<Bench<'m>> {
+        let mut bench = Bench::resume(memory, marks, State::blank());
+        bench.power_on()?;
+        Ok(bench)
+    }
+
+    /// A bench that goes on from a state. It may be any: calls refuse one that is not sound, or that does not fit the memory, with
+    /// `BadBench`.
+    pub fn resume(memory: &'m mut [u8], marks: &'m mut [u8], state: State) -> Bench<'m> {
+        Bench {
+            memory: Bytes::Lent(memory),
+            marks: Bytes::Lent(marks),
+            state,
+        }
+    }
+
+    /// The memory.
+    pub fn memory(&self) -> &[u8] {
+        &self.memory
+    }
+
+    /// The memory, for whoever writes to it past the bench. Such a byte does not count as written.
+    pub fn memory_mut(&mut self) -> &mut [u8] {
+        &mut self.memory
+    }
+
+    /// The marks: 1 for each byte of memory that somebody wrote by a call.
+    pub fn marks(&self) -> &[u8] {
+        &self.marks
+    }
+
+    /// The state as it is kept.
+    pub fn state(&self) -> &State {
+        &self.state
+    }
+
+    /// The mappings held, by rising device address.
+    pub fn mappings(&self) -> &[Mapping] {
+        let table = &self.state.table;
+        &table.entries[..table.count.min(table.entries.len())]
+    }
+
+    /// Whether the device runs.
+    pub fn is_running(&self) -> bool {
+        self.state.running
+    }
+
+    /// Keeps the state that a call gave back, and gives its answer.
+    fn keep(&mut self, kept: Kept) -> Result<u64> {
+        self.state = kept.state;
+        kept.outcome.answer()
+    }
+
+    /// Fresh start: all marks 0, memory bytes untouched, no mapping, the device stopped and reset.
+    ///
+    /// Refused: `BadBench`.
+    pub fn power_on(&mut self) -> Result<()> {
+        let kept = ffi::power_on(self.state, &self.memory, &mut self.marks);
+        self.keep(kept).map(drop)
+    }
+
+    /// A request by target and number, with the bytes of its struct. Gives its result; output fields are written to `buffer`.
+    ///
+    /// Refused: `BadBench`, `NoSuchRequest`, `Short`, `ArgSize`, then as the request says.
+    pub fn request(&mut self, target: Target, number: u32, buffer: &mut [u8]) -> Result<u64> {
+        let kept = ffi::request(
+            self.state,
+            &self.memory,
+            &self.marks,
+            target.0,
+            number,
+            buffer,
+        );
+        self.keep(kept)
+    }
+
+    /// Look-up: where a device address lies in memory.
+    ///
+    /// Refused: `BadBench`, `Range`, `Unmapped`.
+    pub fn look_up(&self, device: DeviceAddress) -> Result<Location> {
+        let found = ffi::look_up(self.state, device.0);
+        found.outcome.answer()?;
+        Ok(Location {
+            address: found.address,
+            rights: found.rights,
+        })
+    }
+
+    /// Card read: fills `buffer` from a device address on.
+    ///
+    /// Refused: `BadBench`, `TooLong`, `Range`, then for the first faulty offset `Unmapped`, `NoRight`, `Unwritten`.
+    pub fn device_read(&self, device: DeviceAddress, buffer: &mut [u8]) -> Result<()> {
+        ffi::device_read(self.state, &self.memory, &self.marks, device.0, buffer)
+            .answer()
+            .map(drop)
+    }
+
+    /// Card write: stores `bytes` from a device address on, in offset order, and marks them written.
+    ///
+    /// Refused: `BadBench`, `TooLong`, `Range`, then for the first faulty offset `Unmapped`, `NoRight`.
+    pub fn device_write(&mut self, device: DeviceAddress, bytes: &[u8]) -> Result<()> {
+        ffi::device_write(
+            self.state,
+            &mut self.memory,
+            &mut self.marks,
+            device.0,
+            bytes,
+        )
+        .answer()
+        .map(drop)
+    }
+
+    /// Host store: stores `bytes` from a memory address on and marks them written.
+    ///
+    /// Refused: `BadBench`, `TooLong`, `Range`.
+    pub fn host_write(&mut self, address: MemoryAddress, bytes: &[u8]) -> Result<()> {
+        ffi::host_write(
+            self.state,
+            &mut self.memory,
+            &mut self.marks,
+            address.0,
+            bytes,
+        )
+        .answer()
+        .map(drop)
+    }
+
+    /// Host load: fills `buffer` from a memory address on.
+    ///
+    /// Refused: `BadBench`, `TooLong`, `Range`, `Unwritten`.
+    pub fn host_read(&self, address: MemoryAddress, buffer: &mut [u8]) -> Result<()> {
+        ffi::host_read(self.state, &self.memory, &self.marks, address.0, buffer)
+            .answer()
+            .map(drop)
+    }
+
+    /// Forget: `length` bytes from a memory address on count as unwritten again. The bytes stay.
+    ///
+    /// Refused: `BadBench`, `Range`.
+    pub fn invalidate(&mut self, address: MemoryAddress, length: u64) -> Result<()> {
+        ffi::invalidate(self.state, &self.memory, &mut self.marks, address.0, length)
+            .answer()
+            .map(drop)
+    }
+
+    /// Sets the register of a type (see [`kind`](crate::kind)) and a selector number.
+    ///
+    /// Refused: `BadBench`, `UnknownPart`, `ReadOnly`, `Header`, `Index`, `Value`, `Mismatch`.
+    pub fn set_register(&mut self, kind: u64, selector: u64, value: &[u8]) -> Result<()> {
+        let kept = ffi::set_register(self.state, kind, selector, value);
+        self.keep(kept).map(drop)
+    }
+
+    /// Reads a register: its value goes to the buffer's start. Gives the value's length.
+    ///
+    /// Refused: `BadBench`, `UnknownPart`, `Header`, `Index`, `Unset`, `NoSpace`.
+    pub fn read_register(&self, kind: u64, selector: u64, buffer: &mut [u8]) -> Result<usize> {
+        ffi::read_register(self.state, kind, selector, buffer)
+            .answer()
+            .map(length)
+    }
+
+    /// Loads a stream of parts: registers named take their values, all others become unset.
+    ///
+    /// Refused: `BadBench`, `Running`, `TooLong`, then for the first faulty part `Truncated`, `Header`, `UnknownPart`, `Index`,
+    /// `Value`, `Twice`, `Mismatch`, and at the end `Missing`.
+    pub fn load_parts(&mut self, stream: &[u8]) -> Result<()> {
+        let kept = ffi::load_parts(self.state, stream);
+        self.keep(kept).map(drop)
+    }
+
+    /// Saves the set registers as a stream of parts at the buffer's start. Gives its length, 41 to [`SAVED_MAX`].
+    ///
+    /// Refused: `BadBench`, `Running`, `NoSpace`.
+    ///
+    /// [`SAVED_MAX`]: crate::SAVED_MAX
+    pub fn save_parts(&self, buffer: &mut [u8]) -> Result<usize> {
+        ffi::save_parts(self.state, buffer).answer().map(length)
+    }
+
+    /// Stops the device, whether or not it runs.
+    ///
+    /// Refused: `BadBench`.
+    pub fn stop(&mut self) -> Result<()> {
+        let kept = ffi::stop(self.state);
+        self.keep(kept).map(drop)
+    }
+
+    /// Starts the device, whether or not it runs.
+    ///
+    /// Refused: `BadBench`.
+    pub fn start(&mut self) -> Result<()> {
+        let kept = ffi::start(self.state);
+        self.keep(kept).map(drop)
+    }
+}
+
+/// A result that is a length within a buffer.
+fn length(result: u64) -> usize {
+    usize::try_from(result).expect("a length within a buffer")
+}
+
+impl fmt::Debug for Bench<'_> {
+    fn fmt(&self, f: &mut fmt::Formatter<'_>) -> fmt::Result {
+        f.debug_struct("Bench")
+            .field("memory_length", &self.memory.len())
+            .field("mappings", &self.mappings())
+            .field("running", &self.state.running)
+            .finish_non_exhaustive()
+    }
+}

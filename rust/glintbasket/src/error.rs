@@ -1,0 +1,141 @@
+//! Refusals, and the error that carries one.
+
+use crate::ffi::Outcome;
+use std::fmt;
+
+/// Defines the refusals from one list, so that names and numbers cannot drift apart.
+macro_rules! refusals {
+    ($($(#[$meta:meta])* $name:ident = $number:literal,)*) => {
+        /// Why a call was refused. Each has the number and the name of the rules' table.
+        #[derive(Clone, Copy, Debug, PartialEq, Eq, Hash)]
+        pub enum Refusal {
+            $($(#[$meta])* $name = $number,)*
+        }
+
+        impl Refusal {
+            /// All refusals, by rising number.
+            pub const ALL: [Refusal; 27] = [$(Refusal::$name,)*];
+
+            /// The name, as `"Unwritten"`.
+            pub fn name(self) -> &'static str {
+                match self {
+                    $(Refusal::$name => stringify!($name),)*
+                }
+            }
+        }
+    };
+}
+
+refusals! {
+    /// Memory and marks differ in length, exceed 2^30 or have not the noted length; or the kept state is not sound.
+    BadBench = 1,
+    /// The target has no request of this number.
+    NoSuchRequest = 2,
+    /// The buffer is shorter than the request's size.
+    Short = 3,
+    /// `argsz` is below the request's size or above the buffer's length.
+    ArgSize = 4,
+    /// Flags are not allowed.
+    Flags = 5,
+    /// There is no such region, interrupt, queue or field. Place in a stream: the start of the part.
+    Index = 6,
+    /// An address or size is no multiple of 4,096.
+    Unaligned = 7,
+    /// Size 0.
+    Empty = 8,
+    /// Past 2^48, or past the end of memory.
+    Range = 9,
+    /// The range shares a device address with a held mapping.
+    Overlap = 10,
+    /// 64 mappings are held.
+    NoRoom = 11,
+    /// The range holds some but not all of a mapping.
+    Cuts = 12,
+    /// A transfer or stream over 65,536 bytes.
+    TooLong = 13,
+    /// No mapping holds the device address. Place: the first faulty offset.
+    Unmapped = 14,
+    /// The mapping lacks the right. Place: the first faulty offset.
+    NoRight = 15,
+    /// Nobody wrote the byte. Place: the first faulty offset.
+    Unwritten = 16,
+    /// The device is not stopped.
+    Running = 17,
+    /// The stream ends inside the part. Place: the start of the part.
+    Truncated = 18,
+    /// The part's header is malformed. Place: the start of the part; 0 for a register.
+    Header = 19,
+    /// No such type. Place: the start of the part; 0 for a register.
+    UnknownPart = 20,
+    /// The stream has the part twice. Place: the start of the second.
+    Twice = 21,
+    /// The value is not allowed. Place: the start of the part; 0 for a register.
+    Value = 22,
+    /// The value does not fit this device. Place: the start of the part; 0 for a register.
+    Mismatch = 23,
+    /// The stream has no status part. Place: the length of the stream.
+    Missing = 24,
+    /// The register was never set.
+    Unset = 25,
+    /// Offered features cannot be set.
+    ReadOnly = 26,
+    /// The output buffer is too small.
+    NoSpace = 27,
+}
+
+impl Refusal {
+    /// The number, 1 to 27.
+    pub fn number(self) -> u32 {
+        self as u32
+    }
+
+    /// The refusal with a number, if there is one.
+    pub fn from_number(number: u32) -> Option<Refusal> {
+        let index = usize::try_from(number).ok()?.checked_sub(1)?;
+        Refusal::ALL.get(index).copied()
+    }
+}
+
+impl fmt::Display for Refusal {
+    fn fmt(&self, f: &mut fmt::Formatter<'_>) -> fmt::Result {
+        write!(f, "{} {}", self.number(), self.name())
+    }
+}
+
+/// A refusal and its place. Nothing lent or kept has changed.
+#[derive(Clone, Copy, Debug, PartialEq, Eq, Hash)]
+pub struct Error {
+    /// Why.
+    pub refusal: Refusal,
+    /// Where: what the refusal's description says, or 0.
+    pub place: u64,
+}
+
+impl Error {
+    pub(crate) fn from_code(code: u32, place: u64) -> Error {
+        let refusal = Refusal::from_number(code).expect("the library refuses with 1 to 27");
+        Error { refusal, place }
+    }
+}
+
+impl fmt::Display for Error {
+    fn fmt(&self, f: &mut fmt::Formatter<'_>) -> fmt::Result {
+        write!(f, "refused {} at {}", self.refusal, self.place)
+    }
+}
+
+impl std::error::Error for Error {}
+
+/// What a call gives.
+pub type Result<T> = std::result::Result<T, Error>;
+
+impl Outcome {
+    /// The result, or the refusal.
+    pub(crate) fn answer(self) -> Result<u64> {
+        if self.refused {
+            Err(Error::from_code(self.code, self.place))
+        } else {
+            Ok(self.result)
+        }
+    }
+}

@@ -1,0 +1,110 @@
+//! Glintbasket: a strict, verified emulator of the host side of VFIO, for people who write drivers for accelerator cards.
+//!
+//! A [`Bench`] plays the host. It answers VFIO requests, keeps the table of DMA mappings, moves bytes for the emulated device with a
+//! mark for each byte that somebody wrote, and saves and loads the device's state as a stream of virtio device parts. A device that
+//! fetches a byte which nobody wrote is refused, with the very offset of that byte.
+//!
+//! ```
+//! use glintbasket::{Bench, DeviceAddress, Error, MemoryAddress, Refusal, Rights};
+//!
+//! fn main() -> Result<(), Error> {
+//!     // Two pages of memory, whose bytes nobody wrote, and a mark for each byte.
+//!     let mut memory = vec![0xa5; 8192];
+//!     let mut marks = vec![0; 8192];
+//!     let mut bench = Bench::new(&mut memory, &mut marks)?;
+//!
+//!     // The driver shows the second page to the device, and puts a command of two bytes there.
+//!     bench.map(MemoryAddress(4096), DeviceAddress(0x10000), 4096, Rights::READ)?;
+//!     bench.host_write(MemoryAddress(4096), b"go")?;
+//!
+//!     // The device fetches it.
+//!     let mut command = [0; 2];
+//!     bench.device_read(DeviceAddress(0x10000), &mut command)?;
+//!     assert_eq!(&command, b"go");
+//!
+//!     // It fetches a byte too many: refused, and the buffer is as it was.
+//!     let mut long = [0; 3];
+//!     let error = bench.device_read(DeviceAddress(0x10000), &mut long).unwrap_err();
+//!     assert_eq!(error.refusal, Refusal::Unwritten);
+//!     assert_eq!(error.place, 2);
+//!     assert_eq!(error.to_string(), "refused 16 Unwritten at 2");
+//!     assert_eq!(long, [0; 3]);
+//!
+//!     // The driver takes the page away.
+//!     assert_eq!(bench.unmap(DeviceAddress(0x10000), 4096)?, 4096);
+//!     Ok(())
+//! }
+//! ```
+//!
+//! A stream of parts is walked without copying:
+//!
+//! ```
+//! use glintbasket::{kind, OwnedBench, Parts, SAVED_MAX};
+//!
+//! # fn main() -> Result<(), glintbasket::Error> {
+//! let mut bench = OwnedBench::with_memory(vec![0; 4096])?;
+//! bench.set_register(kind::DEVICE_STATUS, 0, &[0x0f])?;
+//!
+//! let mut buffer = [0; SAVED_MAX];
+//! let length = bench.save_parts(&mut buffer)?;
+//! let parts = Parts::new(&buffer[..length]).collect::<Result<Vec<_>, _>>()?;
+//! assert_eq!(parts.len(), 2); // offered features and status are always saved
+//! assert_eq!(u64::from(parts[1].kind), kind::DEVICE_STATUS);
+//! assert_eq!(parts[1].value, [0x0f]);
+//! # Ok(())
+//! # }
+//! ```
+//!
+//! # Linking
+//!
+//! The emulator is written in Rattle and proved; `rt staticlib capi` writes it as `libcapi.a` (x86-64 Linux). The build script looks for
+//! it in the directory that the environment variable `GLINT_STATICLIB_DIR` names, or in the repository's `target/staticlib`.
+//!
+//! All `unsafe` code is in one private module, which declares the library's functions and gives each a safe form.
+
+#![deny(unsafe_code)]
+#![deny(missing_docs)]
+
+mod address;
+mod bench;
+mod error;
+#[allow(unsafe_code)]
+mod ffi;
+mod parts;
+mod requests;
+
+pub use address::{DeviceAddress, MemoryAddress, Rights};
+pub use bench::{Bench, Location, OwnedBench, Target};
+pub use error::{Error, Refusal, Result};
+pub use ffi::{Mapping, Register, Registers, State, Table};
+pub use parts::{Part, Parts, PART_HEADER};
+pub use requests::{number, DeviceInfo, IommuInfo, IrqInfo, RegionInfo};
+
+/// The size of a page.
+pub const PAGE_SIZE: u64 = 4096;
+/// Device addresses lie below.
+pub const DEVICE_LIMIT: u64 = 1 << 48;
+/// Memory has at most so many bytes.
+pub const MEMORY_LIMIT: usize = 1 << 30;
+/// One transfer has at most so many bytes, and so has a stream.
+pub const TRANSFER_LIMIT: usize = 65536;
+/// How many mappings a table holds.
+pub const MAPPINGS: usize = 64;
+/// Saving never writes more bytes.
+pub const SAVED_MAX: usize = 429;
+
+/// The types of registers and of parts.
+pub mod kind {
+    /// 8 bytes; read only.
+    pub const OFFERED_FEATURES: u64 = 0x100;
+    /// 8 bytes, of offered bits.
+    pub const DRIVER_FEATURES: u64 = 0x101;
+    /// Selectors 0 and 8 have 4 bytes, 16 and 22 have 2.
+    pub const COMMON_FIELD: u64 = 0x102;
+    /// 1 byte.
+    pub const DEVICE_STATUS: u64 = 0x103;
+    /// Selectors 0 to 3: 32 bytes, which are size, vector, enabled, reserved (2 each) and three addresses (8 each).
+    pub const QUEUE_CONFIG: u64 = 0x104;
+    /// Selectors 0 to 3: 8 bytes.
+    pub const NOTIFY_CONFIG: u64 = 0x105;
+}
