@@ -1,0 +1,329 @@
+//! Power on, and the moves of bytes.
+
+mod common;
+
+use common::{bench, refused, GARBAGE, PAGE};
+use glintbasket::{
+    Bench, DeviceAddress, Location, MemoryAddress, OwnedBench, Refusal, Rights, DEVICE_LIMIT,
+    MEMORY_LIMIT, TRANSFER_LIMIT,
+};
+
+// ---- making a bench
+
+#[test]
+fn new_clears_marks_and_keeps_bytes() {
+    let mut memory = [GARBAGE; 100];
+    let mut marks = [1; 100];
+    let bench = Bench::new(&mut memory, &mut marks).unwrap();
+    assert_eq!(bench.memory(), [GARBAGE; 100]);
+    assert_eq!(bench.marks(), [0; 100]);
+    assert_eq!(bench.mappings(), []);
+    assert!(!bench.is_running());
+    assert_eq!(bench.state().memory_length, 100);
+}
+
+#[test]
+fn new_refuses_unequal_lengths_and_leaves_the_marks() {
+    let mut memory = [0; 100];
+    let mut marks = [1; 99];
+    assert_eq!(
+        Bench::new(&mut memory, &mut marks).map(drop),
+        refused(Refusal::BadBench, 0)
+    );
+    assert_eq!(marks, [1; 99]);
+}
+
+#[test]
+fn lent_memory_has_what_was_written_when_the_bench_is_gone() {
+    let mut memory = [0; 4];
+    let mut marks = [0; 4];
+    let mut bench = Bench::new(&mut memory, &mut marks).unwrap();
+    bench.host_write(MemoryAddress(1), b"xy").unwrap();
+    assert_eq!(&memory, b"\0xy\0");
+    assert_eq!(marks, [0, 1, 1, 0]);
+}
+
+#[test]
+fn with_memory_refuses_more_than_the_limit() {
+    // Zeros, so that the pages of this memory are never touched.
+    let memory = vec![0; MEMORY_LIMIT + 1];
+    assert_eq!(
+        OwnedBench::with_memory(memory).map(drop),
+        refused(Refusal::BadBench, 0)
+    );
+}
+
+#[test]
+fn bench_without_memory_moves_no_bytes() {
+    let mut bench = OwnedBench::with_memory(Vec::new()).unwrap();
+    assert_eq!(bench.host_write(MemoryAddress(0), &[]), Ok(()));
+    assert_eq!(bench.host_read(MemoryAddress(0), &mut []), Ok(()));
+    assert_eq!(bench.device_write(DeviceAddress(0), &[]), Ok(()));
+    assert_eq!(
+        bench.host_write(MemoryAddress(0), b"x"),
+        refused(Refusal::Range, 0)
+    );
+}
+
+#[test]
+fn resume_goes_on_from_a_state() {
+    let mut memory = [GARBAGE; PAGE as usize];
+    let mut marks = [0; PAGE as usize];
+    let mut bench = Bench::new(&mut memory, &mut marks).unwrap();
+    let read = Rights::READ;
+    bench
+        .map(MemoryAddress(0), DeviceAddress(0), PAGE, read)
+        .unwrap();
+    bench.host_write(MemoryAddress(7), b"!").unwrap();
+    let state = *bench.state();
+
+    let bench = Bench::resume(&mut memory, &mut marks, state);
+    let mut byte = [0];
+    assert_eq!(bench.device_read(DeviceAddress(7), &mut byte), Ok(()));
+    assert_eq!(&byte, b"!");
+}
+
+#[test]
+fn resume_of_an_unsound_state_is_refused_by_every_call_but_power_on() {
+    let mut memory = [0; 16];
+    let mut marks = [0; 16];
+    let mut state = *Bench::new(&mut memory, &mut marks).unwrap().state();
+    state.table.count = 65;
+    let mut bench = Bench::resume(&mut memory, &mut marks, state);
+    assert_eq!(bench.mappings().len(), 64);
+    assert_eq!(bench.stop(), refused(Refusal::BadBench, 0));
+    assert_eq!(
+        bench.look_up(DeviceAddress(0)),
+        refused(Refusal::BadBench, 0)
+    );
+    assert_eq!(bench.api_version(), refused(Refusal::BadBench, 0));
+    assert_eq!(bench.state().table.count, 65);
+    assert_eq!(bench.power_on(), Ok(()));
+    assert_eq!(bench.api_version(), Ok(0));
+}
+
+#[test]
+fn power_on_forgets_all_but_the_bytes() {
+    let mut bench = bench(1);
+    bench
+        .map(MemoryAddress(0), DeviceAddress(0), PAGE, Rights::READ)
+        .unwrap();
+    bench.host_write(MemoryAddress(3), b"x").unwrap();
+    bench.start().unwrap();
+    assert_eq!(bench.power_on(), Ok(()));
+    assert_eq!(bench.mappings(), []);
+    assert!(!bench.is_running());
+    assert_eq!(bench.memory()[3], b'x');
+    assert_eq!(
+        bench.host_read(MemoryAddress(3), &mut [0]),
+        refused(Refusal::Unwritten, 0)
+    );
+}
+
+#[test]
+fn memory_written_past_the_bench_is_unwritten() {
+    let mut bench = bench(1);
+    bench.memory_mut()[0] = 1;
+    assert_eq!(bench.memory()[0], 1);
+    assert_eq!(
+        bench.host_read(MemoryAddress(0), &mut [0]),
+        refused(Refusal::Unwritten, 0)
+    );
+}
+
+#[test]
+fn debug_tells_the_lengths_and_not_the_bytes() {
+    let text = format!("{:?}", bench(1));
+    assert_eq!(
+        text,
+        "Bench { memory_length: 4096, mappings: [], running: false, .. }"
+    );
+}
+
+// ---- look-up
+
+#[test]
+fn look_up_gives_address_and_rights() {
+    let mut bench = bench(2);
+    let both = Rights::READ | Rights::WRITE;
+    let top = DEVICE_LIMIT - PAGE;
+    bench
+        .map(MemoryAddress(PAGE), DeviceAddress(top), PAGE, both)
+        .unwrap();
+    let found = bench.look_up(DeviceAddress(DEVICE_LIMIT - 1));
+    let location = Location {
+        address: MemoryAddress(2 * PAGE - 1),
+        rights: both,
+    };
+    assert_eq!(found, Ok(location));
+    assert!(location.rights.contains(Rights::WRITE));
+    assert!(!Rights::READ.contains(both));
+}
+
+#[test]
+fn look_up_refuses() {
+    let bench = bench(1);
+    assert_eq!(
+        bench.look_up(DeviceAddress(0)),
+        refused(Refusal::Unmapped, 0)
+    );
+    assert_eq!(
+        bench.look_up(DeviceAddress(DEVICE_LIMIT)),
+        refused(Refusal::Range, 0)
+    );
+}
+
+// ---- card reads and writes
+
+#[test]
+fn device_read_crosses_adjoining_mappings() {
+    let mut bench = bench(2);
+    let read = Rights::READ;
+    bench
+        .map(MemoryAddress(PAGE), DeviceAddress(0), PAGE, read)
+        .unwrap();
+    bench
+        .map(MemoryAddress(0), DeviceAddress(PAGE), PAGE, read)
+        .unwrap();
+    bench.host_write(MemoryAddress(0), b"cd").unwrap();
+    bench
+        .host_write(MemoryAddress(2 * PAGE - 2), b"ab")
+        .unwrap();
+    let mut buffer = [0; 4];
+    assert_eq!(
+        bench.device_read(DeviceAddress(PAGE - 2), &mut buffer),
+        Ok(())
+    );
+    assert_eq!(&buffer, b"abcd");
+}
+
+#[test]
+fn device_read_refuses_at_the_first_faulty_offset_and_leaves_the_buffer() {
+    let mut bench = bench(2);
+    bench
+        .map(MemoryAddress(0), DeviceAddress(0), PAGE, Rights::READ)
+        .unwrap();
+    bench
+        .map(
+            MemoryAddress(PAGE),
+            DeviceAddress(PAGE),
+            PAGE,
+            Rights::WRITE,
+        )
+        .unwrap();
+    bench.host_write(MemoryAddress(PAGE - 3), b"ab").unwrap();
+    let mut buffer = [GARBAGE; 3];
+    let mut read = |device, length: usize| {
+        let answer = bench.device_read(DeviceAddress(device), &mut buffer[..length]);
+        assert_eq!(buffer, [GARBAGE; 3]);
+        answer
+    };
+    assert_eq!(read(PAGE - 3, 3), refused(Refusal::Unwritten, 2));
+    assert_eq!(read(PAGE, 1), refused(Refusal::NoRight, 0));
+    assert_eq!(read(2 * PAGE, 1), refused(Refusal::Unmapped, 0));
+    assert_eq!(read(DEVICE_LIMIT - 1, 2), refused(Refusal::Range, 0));
+    assert_eq!(read(DEVICE_LIMIT, 0), Ok(()));
+}
+
+#[test]
+fn device_read_refuses_more_than_the_limit_before_the_range() {
+    let bench = bench(1);
+    let mut buffer = vec![0; TRANSFER_LIMIT + 1];
+    assert_eq!(
+        bench.device_read(DeviceAddress(DEVICE_LIMIT), &mut buffer),
+        refused(Refusal::TooLong, 0)
+    );
+}
+
+#[test]
+fn device_write_stores_in_offset_order_and_marks() {
+    let mut bench = bench(2);
+    for device in [0, PAGE] {
+        bench
+            .map(MemoryAddress(0), DeviceAddress(device), PAGE, Rights::WRITE)
+            .unwrap();
+    }
+    let mut bytes = vec![b'a'; PAGE as usize];
+    bytes.push(b'z');
+    assert_eq!(bench.device_write(DeviceAddress(0), &bytes), Ok(()));
+    assert_eq!(bench.memory()[..3], *b"zaa");
+    assert_eq!(bench.marks()[..PAGE as usize], [1; PAGE as usize]);
+    assert_eq!(bench.marks()[PAGE as usize..], [0; PAGE as usize]);
+}
+
+#[test]
+fn device_write_refused_leaves_memory_and_marks() {
+    let mut bench = bench(1);
+    bench
+        .map(MemoryAddress(0), DeviceAddress(0), PAGE, Rights::WRITE)
+        .unwrap();
+    assert_eq!(
+        bench.device_write(DeviceAddress(PAGE - 1), b"xy"),
+        refused(Refusal::Unmapped, 1)
+    );
+    assert_eq!(bench.memory(), [GARBAGE; PAGE as usize]);
+    assert_eq!(bench.marks(), [0; PAGE as usize]);
+
+    bench
+        .map(MemoryAddress(0), DeviceAddress(PAGE), PAGE, Rights::READ)
+        .unwrap();
+    assert_eq!(
+        bench.device_write(DeviceAddress(PAGE - 1), b"xy"),
+        refused(Refusal::NoRight, 1)
+    );
+}
+
+// ---- host stores and loads
+
+#[test]
+fn host_write_reaches_the_end_of_memory_and_not_past_it() {
+    let mut bench = bench(1);
+    assert_eq!(bench.host_write(MemoryAddress(PAGE - 2), b"ab"), Ok(()));
+    assert_eq!(bench.memory()[PAGE as usize - 2..], *b"ab");
+    assert_eq!(
+        bench.host_write(MemoryAddress(PAGE - 1), b"xy"),
+        refused(Refusal::Range, 0)
+    );
+    assert_eq!(
+        bench.host_write(MemoryAddress(u64::MAX), b"xy"),
+        refused(Refusal::Range, 0)
+    );
+    assert_eq!(bench.memory()[PAGE as usize - 2..], *b"ab");
+    assert_eq!(
+        bench.host_write(MemoryAddress(0), &[0; TRANSFER_LIMIT + 1]),
+        refused(Refusal::TooLong, 0)
+    );
+}
+
+#[test]
+fn host_read_gives_written_bytes_alone() {
+    let mut bench = bench(1);
+    bench.host_write(MemoryAddress(8), b"abc").unwrap();
+    let mut buffer = [0; 3];
+    assert_eq!(bench.host_read(MemoryAddress(8), &mut buffer), Ok(()));
+    assert_eq!(&buffer, b"abc");
+    assert_eq!(
+        bench.host_read(MemoryAddress(9), &mut buffer),
+        refused(Refusal::Unwritten, 2)
+    );
+    assert_eq!(
+        bench.host_read(MemoryAddress(PAGE - 2), &mut buffer),
+        refused(Refusal::Range, 0)
+    );
+    assert_eq!(&buffer, b"abc");
+}
+
+#[test]
+fn invalidate_clears_marks_and_keeps_bytes() {
+    let mut bench = bench(1);
+    bench.host_write(MemoryAddress(0), b"abc").unwrap();
+    assert_eq!(bench.invalidate(MemoryAddress(1), 1), Ok(()));
+    assert_eq!(bench.marks()[..4], [1, 0, 1, 0]);
+    assert_eq!(bench.memory()[..3], *b"abc");
+    assert_eq!(bench.invalidate(MemoryAddress(PAGE), 0), Ok(()));
+    assert_eq!(
+        bench.invalidate(MemoryAddress(1), u64::MAX),
+        refused(Refusal::Range, 0)
+    );
+    assert_eq!(bench.marks()[..4], [1, 0, 1, 0]);
+}
