@@ -1,6 +1,7 @@
 //! Finds the proved static library: in GLINT_STATICLIB_DIR, or where `rt staticlib capi` writes it in this repository.
 use std::env;
 use std::path::{Path, PathBuf};
+use std::process;
 
 const VARIABLE: &str = "GLINT_STATICLIB_DIR";
 
@@ -10,10 +11,11 @@ fn main() {
     let library = directory.join("libcapi.a");
     println!("cargo:rerun-if-changed={}", library.display());
     if !library.exists() {
-        panic!(
+        eprintln!(
             "{} is not there: run `rt staticlib capi` at the repository's root, or set {VARIABLE}",
             library.display()
         );
+        process::exit(1);
     }
     println!("cargo:rustc-link-search=native={}", directory.display());
     println!("cargo:rustc-link-lib=static=capi");
