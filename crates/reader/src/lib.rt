@@ -1,0 +1,34 @@
+// A reader of a stream of parts: it keeps hold of the stream and its place. Its functions are thin: each takes the struct
+// apart and leaves the work to a function on a slice and a number. Callers that have those need no reader.
+use parts::Step;
+ghost use mathlib.Core.Path.{_≡_};
+ghost use Rattle.parts.specs.Step.{stepAt, valueAt};
+ghost use Rattle.reader.specs.Read.{placeAfter, readerAt, onward};
+
+pub struct PartReader<'a> {
+    pub stream: &'a [u8],
+    pub place: usize,
+}
+
+// Where a reader of `stream` at `place` goes on: behind the part there; after a refusal or at the end it stays.
+pub fn place_after(stream: &[u8], place: usize) -> usize
+    ensures { λ r. ⌜ r ≡ placeAfter (now (stream .entry)) place ⌝ }
+{
+    let step = parts::step_at(stream, place);
+    match step {
+        Step::Part {
+            kind: _,
+            flags: _,
+            selector: _,
+            next,
+        } => next,
+        Step::End => place,
+        Step::Refused(_, _) => place,
+    }
+}
+
+pub fn new<'a>(stream: &'a [u8]) -> PartReader<'a>
+    ensures { λ r. ⌜ r ≡ readerAt (stream .entry) 0 ⌝ }
+{
+    PartReader { stream, place: 0 }
+}
