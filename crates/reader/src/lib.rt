@@ -32,3 +32,17 @@ pub fn new<'a>(stream: &'a [u8]) -> PartReader<'a>
 {
     PartReader { stream, place: 0 }
 }
+
+// What stands at the reader's place.
+pub fn step<'a>(r: PartReader<'a>) -> Step
+    ensures { λ s. ⌜ s ≡ stepAt (now (r .entry .stream)) (r .entry .place) ⌝ }
+{
+    parts::step_at(r.stream, r.place)
+}
+
+// The value of the part at the reader's place, as that stretch of the stream; nothing where no part stands.
+pub fn value<'a>(r: PartReader<'a>) -> &'a [u8]
+    ensures { λ v. ⌜ now v ≡ valueAt (now (r .entry .stream)) (r .entry .place) ⌝ }
+{
+    parts::value_at(r.stream, r.place)
+}
