@@ -46,3 +46,11 @@ pub fn value<'a>(r: PartReader<'a>) -> &'a [u8]
 {
     parts::value_at(r.stream, r.place)
 }
+
+// The same stream at the place after the step.
+pub fn next<'a>(r: PartReader<'a>) -> PartReader<'a>
+    ensures { λ q. ⌜ q ≡ onward (r .entry) ⌝ }
+{
+    let place = place_after(r.stream, r.place);
+    PartReader { stream: r.stream, place }
+}
