@@ -52,5 +52,8 @@ pub fn next<'a>(r: PartReader<'a>) -> PartReader<'a>
     ensures { λ q. ⌜ q ≡ onward (r .entry) ⌝ }
 {
     let place = place_after(r.stream, r.place);
-    PartReader { stream: r.stream, place }
+    PartReader {
+        stream: r.stream,
+        place,
+    }
 }
