@@ -2,7 +2,7 @@
 --     ended, says, promise     the signature with what is kept at exit, the clauses and the contract, over the parameters ps, the result's type R and the fact φ
 --     asks             a call of such a function: its result is owned, its fact and its machine value's relation are had, and the token is back
 --     Passed F         of a parameter's type F: its machine value, and that the parameter is kept as it was passed.        slice-passed     a `&[u8]` is
---     Post, leaves     of a function of one such parameter: what its walk ends in, and how it ends.        meets      a walk of its MIR shows its contract
+--     hands            of a function of one such parameter: what a call of it asks.        Post, leaves     what its walk ends in, and how it ends.        meets      a walk of its MIR shows its contract
 -- The laws take `Given`. The rest assumes nothing.
 use mathlib.Core.Path.{_≡_, refl}
 use mathlib.Core.List.{List, [], _∷_}
@@ -16,7 +16,7 @@ use prog.Wp.{Heap, Env, Calls, Loops, WpFn, Tables}
 use ghost.Atoms.{Atoms, sem}
 use contract.Lifetimes.{Lfts}
 use contract.Monad.{fact}
-use types.Kit.{Given, Item, Post as Aim, Seq, runs, lands, ‵, raw, _⊛_, ⋆, some, later, _$_, _∵_, !, qed, move, use1, split, pick, fjoin, suffices, frame, await, done}
+use types.Kit.{Given, Item, Post as Aim, Seq, runs, lands, ‵, raw, _⊛_, ⋆, some, later, _$_, _∵_, !, qed, move, use1, split, join, pick, fjoin, suffices, frame, await, done}
 use types.Run.{Opds}
 use sound.WpLaws.{FmC, WpFn-mono}
 use denote.RattleType.{RattleType, Denots, flat}
@@ -88,6 +88,9 @@ module _ (F R : Lfts 1 → RattleType) (φ : (κs : Lfts 1) → F κs .Denot × 
     c = says (plain F ∷ []) (yes, tt) R φ 𝓤
 
     module _ (κ : Lft) (q : Share) (x : F (κ, tt) .Denot) where
+      pub hands : Given 𝓤 H A → (v : Val) → ent 𝓤 (⋆ 𝓤 H A (‵ (F (κ, tt) .own x (v ∷ [])) ∷ (‵ (flft κ q) ⊛ ‵ ftrue) ∷ [])) (promise (plain F ∷ []) (yes, tt) R φ 𝓤 H A .pre (((κ, tt), (q, tt), tt, (x, tt), (v ∷ [], tt)), tt))
+      hands W v = qed W (‵ (F (κ, tt) .own x (v ∷ [])) ∷ (‵ (flft κ q) ⊛ ‵ ftrue) ∷ []) ∵ nothing ! $ move ! (1 ∷ 0 ∷ []) $ fjoin ! $ move ! (1 ∷ 0 ∷ []) $ join ! $ frame ! $ done !
+
       abbrev pub Post : Val → SProp 𝓤
       Post = walkOf 𝓤 H A T stayed c .post (((κ, tt), (q, tt), tt, (x, tt), (by .val (κ, tt) x ∷ [], tt)), tt)
 

@@ -57,3 +57,10 @@ pub fn next<'a>(r: PartReader<'a>) -> PartReader<'a>
         place,
     }
 }
+
+// What stands behind the first part of a stream: for callers that hold no reader.
+pub fn second(stream: &[u8]) -> Step
+    ensures { λ s. ⌜ s ≡ stepAt (now (stream .entry)) (placeAfter (now (stream .entry)) 0) ⌝ }
+{
+    step(next(new(stream)))
+}
