@@ -25,3 +25,7 @@ readerAt s p = record { stream = s; place = p }
 -- the reader behind the part at which `r` stands: it holds the same stream
 abbrev pub onward : PartReader → PartReader
 onward r = readerAt (r .stream) (placeAfter (now (r .stream)) (r .place))
+
+-- what stands behind the first part of the stream `s`
+unfoldable pub secondStep : List ℕ → Step
+secondStep s = stepAt s (placeAfter s 0)

@@ -3,7 +3,7 @@
 use parts::Step;
 ghost use mathlib.Core.Path.{_≡_};
 ghost use Rattle.parts.specs.Step.{stepAt, valueAt};
-ghost use Rattle.reader.specs.Read.{placeAfter, readerAt, onward};
+ghost use Rattle.reader.specs.Read.{placeAfter, readerAt, onward, secondStep};
 
 pub struct PartReader<'a> {
     pub stream: &'a [u8],
@@ -60,7 +60,7 @@ pub fn next<'a>(r: PartReader<'a>) -> PartReader<'a>
 
 // What stands behind the first part of a stream: for callers that hold no reader.
 pub fn second(stream: &[u8]) -> Step
-    ensures { λ s. ⌜ s ≡ stepAt (now (stream .entry)) (placeAfter (now (stream .entry)) 0) ⌝ }
+    ensures { λ s. ⌜ s ≡ secondStep (now (stream .entry)) ⌝ }
 {
     step(next(new(stream)))
 }

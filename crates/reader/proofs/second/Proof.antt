@@ -32,7 +32,7 @@ use Rattle.parts.specs.Step.{stepAt}
 use Rattle.parts.specs.declared.Step.{Step}
 use Rattle.parts.proofs.Step as S
 use Rattle.parts.proofs.Step.Laws as S′
-use Rattle.reader.specs.Read.{placeAfter, readerAt, onward}
+use Rattle.reader.specs.Read.{readerAt, onward, secondStep}
 use Rattle.reader.specs.declared.PartReader.{PartReader}
 use Rattle.reader.proofs.Walks.{Slice, slice-passed, promise, asks, hands, Post, leaves, meets}
 use Rattle.reader.proofs.Held.{B, reader-passed, reader-typed}
@@ -68,7 +68,7 @@ abbrev steps : Lfts 1 → PartReader × Unit {0} → Step → Type 0
 steps κs a t = t ≡ at (a .0)
 
 abbrev φ : Lfts 1 → RefT (List ℕ) × Unit {0} → Step → Type 0
-φ κs a t = t ≡ stepAt (now (a .0)) (placeAfter (now (a .0)) 0)
+φ κs a t = t ≡ secondStep (now (a .0))
 
 module _ {M : Type 1} (𝓤 : URA M) (H : Heap 𝓤) (A : Atoms 𝓤) where
   abbrev New : Contract 𝓤
@@ -87,6 +87,11 @@ module _ {M : Type 1} (𝓤 : URA M) (H : Heap 𝓤) (A : Atoms 𝓤) where
 
     abbrev Lent : Fml
     Lent = Slice (κ, tt) .own s (v ∷ [])
+
+    -- the three facts together
+    composed : (r r′ : PartReader) (t : Step) → r ≡ readerAt s 0 → r′ ≡ onward r → t ≡ at r′ → t ≡ secondStep (now s)
+    unfolding secondStep
+    composed r r′ t e e′ e″ = e″ ∙ ap at (e′ ∙ ap onward e)
 
     abbrev fm : FmC 𝓤 H (W .laws) (𝓣 .C)
     fm = fmOf 𝓤 H (W .laws) 𝓣
@@ -108,7 +113,7 @@ module _ {M : Type 1} (𝓤 : URA M) (H : Heap 𝓤) (A : Atoms 𝓤) where
         land ! (from ! (stop !)) (init ! 9 refl (EL.lawful S.the-type S′.the-laws 𝓤 H A W tt .typed t (w ∷ []) is-t .0)) $
         returns ! (look ! 9 refl) $ forget ! 3 refl $ forget ! 5 refl $ forget ! 7 refl $ forget ! 9 refl $
         move ! (9 ∷ 10 ∷ []) $ free1 ! $ move ! (7 ∷ 8 ∷ []) $ free1 ! $ move ! (5 ∷ 6 ∷ []) $ free1 ! $ move ! (3 ∷ 4 ∷ []) $ free1 ! $ free0 ! $
-        by ! (leaves Slice E φ slice-passed 𝓤 H A κ q s W t w (e″ ∙ ap at (e′ ∙ ap onward e))))))))))
+        by ! (leaves Slice E φ slice-passed 𝓤 H A κ q s W t w (composed r r′ t e e′ e″)))))))))
 
 pub second-spec : {M : Type 1} → stated.statement M
 unfolding code.routine tablesOf
