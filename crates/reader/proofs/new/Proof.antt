@@ -1,7 +1,7 @@
 -- `reader::new` meets its contract: a walk of its MIR, by hand. A `PartReader` is made of the slice passed and 0, in the result's local.
 -- A `&[u8]` is Copy, so what it owns is had twice: once for the parameter at exit, and once inside the result, beside the facts of the place.
 -- Assumes nothing.
-use mathlib.Core.Path.{_≡_, refl}
+use mathlib.Core.Path.{refl}
 use Prim.Native.Nat.{ℕ}
 use mathlib.Core.List.{List, [], _∷_}
 use lib.Dec.{lit<}
@@ -12,7 +12,6 @@ use base.Logic.{ent}
 use base.Fml.{Lft, Share, Fml, ftrue, flft}
 use prog.Wp.{Heap, WpFn, Tables}
 use ghost.Atoms.{Atoms}
-use contract.Lifetimes.{Lfts}
 use contract.Running.{givenOf, tables, tablesOf}
 use types.Kit.{Given, ‵, _⊛_, _$_, _∵_, !, qed, by, move, drop, use1, split, fsplit, fjoin}
 use types.Part.{agg}
@@ -30,18 +29,14 @@ use denote.Triple.Entry.{onEntry}
 use denote.Triple.Spec.{tripleOf}
 use denote.Triple.Table.{entered}
 use Rattle.reader.specs.Read.{readerAt}
-use Rattle.reader.specs.declared.PartReader.{PartReader}
 use Rattle.reader.proofs.PartReader as T
 use Rattle.reader.proofs.PartReader.Laws as T′
 use Rattle.reader.proofs.Walks.{Slice, slice-passed, Post, leaves, meets}
-use Rattle.reader.proofs.Held.{B, Own}
+use Rattle.reader.proofs.Held.{B, Own, saysNew}
 use Rattle.reader.proofs.new.Key.{name as #reader·new}
 use Rattle.reader.proofs.new as new
 use Rattle.reader.proofs.new.Statement as stated
 use Rattle.reader.proofs.new.Code as code
-
-abbrev φ : Lfts 1 → RefT (List ℕ) × Unit {0} → PartReader → Type 0
-φ κs a r = r ≡ readerAt (a .0) 0
 
 module _ {M : Type 1} (𝓤 : URA M) (H : Heap 𝓤) (A : Atoms 𝓤) (W : Given 𝓤 H A) (𝓣 : Tables 𝓤 H) (κ : Lft) (q : Share) (s : RefT (List ℕ)) where
   -- the machine value that s has, and what s owns
@@ -51,16 +46,16 @@ module _ {M : Type 1} (𝓤 : URA M) (H : Heap 𝓤) (A : Atoms 𝓤) (W : Given
   abbrev Lent : Fml
   Lent = Slice (κ, tt) .own s (v ∷ [])
 
-  exits : ent 𝓤 (onEntry 𝓤 H A new.signature (κ, tt) (q, tt) (s, tt) (v ∷ [], tt)) (Post Slice B φ slice-passed 𝓤 H A κ q s (T′.lowered (readerAt s 0)))
+  exits : ent 𝓤 (onEntry 𝓤 H A new.signature (κ, tt) (q, tt) (s, tt) (v ∷ [], tt)) (Post Slice B saysNew slice-passed 𝓤 H A κ q s (T′.lowered (readerAt s 0)))
   exits =
       qed W ((‵ (flft κ q) ⊛ ‵ ftrue) ∷ ‵ (owns (Slice (κ, tt) ∷ []) (s, tt) (v ∷ [], tt)) ∷ []) ∵
       move ! (1 ∷ []) $ fsplit ! $ move ! (1 ∷ []) $ drop ! $ use1 W (‵ Lent ⊛ ‵ Lent) (shr-slice-copy 𝓤 H A W (named 0) κ u8 .twice s (v ∷ [])) $ split ! $
       -- [what s owns; the same; the token]: what the fields own together, of the one and of the place's facts, is what the struct owns
       nothing ! $ owned ! usize (Is usize) (uint-makes 𝓤 H A W w64) 0 _ (refl, lit< tt) $ fjoin ! $ move ! (1 ∷ 0 ∷ []) $ fjoin ! $
       use1 W (‵ (Own κ (readerAt s 0))) (own-shut 𝓤 H A W (T.the-type (namedLft 1 0 tt (κ, tt))) (T′.the-laws (namedLft 1 0 tt (κ, tt))) (s, (0, tt))) $
-      move ! (0 ∷ 2 ∷ 1 ∷ []) $ by ! (leaves Slice B φ slice-passed 𝓤 H A κ q s W (readerAt s 0) (T′.lowered (readerAt s 0)) refl)
+      move ! (0 ∷ 2 ∷ 1 ∷ []) $ by ! (leaves Slice B saysNew slice-passed 𝓤 H A κ q s W (readerAt s 0) (T′.lowered (readerAt s 0)) refl)
 
-  walk : Is (Slice (κ, tt)) s (v ∷ []) → ent 𝓤 (onEntry 𝓤 H A new.signature (κ, tt) (q, tt) (s, tt) (v ∷ [], tt)) (WpFn 𝓤 H (𝓣 .C) (𝓣 .Λ) code.function (v ∷ []) (Post Slice B φ slice-passed 𝓤 H A κ q s))
+  walk : Is (Slice (κ, tt)) s (v ∷ []) → ent 𝓤 (onEntry 𝓤 H A new.signature (κ, tt) (q, tt) (s, tt) (v ∷ [], tt)) (WpFn 𝓤 H (𝓣 .C) (𝓣 .Λ) code.function (v ∷ []) (Post Slice B saysNew slice-passed 𝓤 H A κ q s))
   walk is =
       let wt = shr-slice-lawful 𝓤 H A W (named 0) κ u8 .typed s (v ∷ []) is .0 in
       qed W ((‵ (flft κ q) ⊛ ‵ ftrue) ∷ ‵ (owns (Slice (κ, tt) ∷ []) (s, tt) (v ∷ [], tt)) ∷ []) ∵ enter ! (𝓣 .C) (𝓣 .Λ) code.function (v ∷ []) _ $
@@ -73,5 +68,5 @@ unfolding code.routine tablesOf
 new-spec 𝓤 H 𝓜 𝓖 𝓡 =
     entered 𝓤 H (tripleOf 𝓤 H (𝓖 .A) new.signature (new.spec 𝓤 H (𝓖 .A) (𝓜 .mem) (𝓡 .run)))
     (tables 𝓤 H 𝓜 𝓡 code.env .C) (tables 𝓤 H 𝓜 𝓡 code.env .Λ) #reader·new code.function (code.unfolded 𝓤 H 𝓜 𝓡)
-    (meets Slice B φ slice-passed 𝓤 H (𝓖 .A) (givenOf 𝓤 H 𝓜 𝓖) (tablesOf 𝓤 H 𝓜 (tables 𝓤 H 𝓜 𝓡 code.env)) code.function
+    (meets Slice B saysNew slice-passed 𝓤 H (𝓖 .A) (givenOf 𝓤 H 𝓜 𝓖) (tablesOf 𝓤 H 𝓜 (tables 𝓤 H 𝓜 𝓡 code.env)) code.function
     (walk 𝓤 H (𝓖 .A) (givenOf 𝓤 H 𝓜 𝓖) (tablesOf 𝓤 H 𝓜 (tables 𝓤 H 𝓜 𝓡 code.env))))

@@ -31,12 +31,12 @@ use denote.Triple.Entry.{onEntry}
 use denote.Triple.Spec.{tripleOf}
 use denote.Triple.Table.{entered, cited}
 use denote.Exit.{yes}
-use Rattle.reader.specs.Read.{placeAfter, readerAt, onward}
+use Rattle.reader.specs.Read.{placeAfter, readerAt}
 use Rattle.reader.specs.declared.PartReader.{PartReader}
 use Rattle.reader.proofs.PartReader as T
 use Rattle.reader.proofs.PartReader.Laws as T′
 use Rattle.reader.proofs.Walks.{promise, asks, Post, leaves, meets}
-use Rattle.reader.proofs.Held.{B, reader-passed, reader-typed, Own, twice, asked, passed, fields, apart}
+use Rattle.reader.proofs.Held.{B, reader-passed, reader-typed, Own, saysNext, twice, asked, passed, fields, apart}
 use Rattle.reader.proofs.place_after as place-after
 use Rattle.reader.proofs.place_after.Symbol as place-after-def
 use Rattle.reader.proofs.place_after.Symbol.{name as #reader·place-after}
@@ -46,12 +46,9 @@ use Rattle.reader.proofs.next as next
 use Rattle.reader.proofs.next.Statement as stated
 use Rattle.reader.proofs.next.Code as code
 
--- what `place_after` says, and `next`
+-- what `place_after` says
 abbrev φ : Lfts 1 → RefT (List ℕ) × (ℕ × Unit {0}) → ℕ → Type 0
 φ κs a n = n ≡ placeAfter (now (a .0)) (a .1 .0)
-
-abbrev ψ : Lfts 1 → PartReader × Unit {0} → PartReader → Type 0
-ψ κs a r = r ≡ onward (a .0)
 
 module _ {M : Type 1} (𝓤 : URA M) (H : Heap 𝓤) (A : Atoms 𝓤) where
   abbrev PlaceAfter : Contract 𝓤
@@ -65,14 +62,14 @@ module _ {M : Type 1} (𝓤 : URA M) (H : Heap 𝓤) (A : Atoms 𝓤) where
     abbrev at : ℕ → PartReader
     at = readerAt (d .stream)
 
-    exits : (n : ℕ) → n ≡ placeAfter (now (d .stream)) (d .place) → n < 2 ^ 64 → ent 𝓤 (⋆ 𝓤 H A ((‵ (flft κ q) ⊛ ‵ ftrue) ∷ ‵ (Own κ d) ∷ [])) (Post B B ψ reader-passed 𝓤 H A κ q d (T′.lowered (at n)))
+    exits : (n : ℕ) → n ≡ placeAfter (now (d .stream)) (d .place) → n < 2 ^ 64 → ent 𝓤 (⋆ 𝓤 H A ((‵ (flft κ q) ⊛ ‵ ftrue) ∷ ‵ (Own κ d) ∷ [])) (Post B B saysNext reader-passed 𝓤 H A κ q d (T′.lowered (at n)))
     exits n e fits =
         qed W ((‵ (flft κ q) ⊛ ‵ ftrue) ∷ ‵ (Own κ d) ∷ []) ∵ move ! (1 ∷ []) $ use1 W (‵ (Own κ d) ⊛ ‵ (Own κ d)) (twice κ d 𝓤 H A W) $ split ! $
         owned ! usize (Is usize) (uint-makes 𝓤 H A W w64) n _ (refl, fits) $ move ! (1 ∷ 0 ∷ []) $
         use2 W (‵ (Own κ (at n))) (own-put 𝓤 H A W (T.the-type (namedLft 1 0 tt (κ, tt))) (T′.the-laws (namedLft 1 0 tt (κ, tt))) 1 (fields κ d) n mach) $
-        move ! (0 ∷ 2 ∷ 1 ∷ []) $ by ! (leaves B B ψ reader-passed 𝓤 H A κ q d W (at n) (T′.lowered (at n)) (ap at e))
+        move ! (0 ∷ 2 ∷ 1 ∷ []) $ by ! (leaves B B saysNext reader-passed 𝓤 H A κ q d W (at n) (T′.lowered (at n)) (ap at e))
 
-    walk : Holds (hasTy (T′.mir (named 0)) mach) × WT mach → ent 𝓤 (onEntry 𝓤 H A next.signature (κ, tt) (q, tt) (d, tt) (mach ∷ [], tt)) (WpFn 𝓤 H (𝓣 .C) (𝓣 .Λ) code.function (mach ∷ []) (Post B B ψ reader-passed 𝓤 H A κ q d))
+    walk : Holds (hasTy (T′.mir (named 0)) mach) × WT mach → ent 𝓤 (onEntry 𝓤 H A next.signature (κ, tt) (q, tt) (d, tt) (mach ∷ [], tt)) (WpFn 𝓤 H (𝓣 .C) (𝓣 .Λ) code.function (mach ∷ []) (Post B B saysNext reader-passed 𝓤 H A κ q d))
     walk wt =
         qed W (raw (onEntry 𝓤 H A next.signature (κ, tt) (q, tt) (d, tt) (mach ∷ [], tt)) ∷ []) ∵ enter ! (𝓣 .C) (𝓣 .Λ) code.function (mach ∷ []) _ $
         alloc1 ! (λ l₀. alloc1 ! (λ l₁. alloc1 ! (λ l₂. alloc1 ! (λ l₃. alloc1 ! (λ l₄. alloc1 ! (λ l₅. alloc0 ! $ params1 ! $ pass1 ! (init ! 8 refl wt) $ pass0 ! $
@@ -93,7 +90,7 @@ unfolding code.routine tablesOf
 next-spec 𝓤 H 𝓜 𝓖 𝓡 =
     entered 𝓤 H (tripleOf 𝓤 H (𝓖 .A) next.signature (next.spec 𝓤 H (𝓖 .A) (𝓜 .mem) (𝓡 .run)))
     (tables 𝓤 H 𝓜 𝓡 code.env .C) (tables 𝓤 H 𝓜 𝓡 code.env .Λ) #reader·next code.function (code.unfolded 𝓤 H 𝓜 𝓡)
-    (meets B B ψ reader-passed 𝓤 H (𝓖 .A) (givenOf 𝓤 H 𝓜 𝓖) (tablesOf 𝓤 H 𝓜 (tables 𝓤 H 𝓜 𝓡 code.env)) code.function
+    (meets B B saysNext reader-passed 𝓤 H (𝓖 .A) (givenOf 𝓤 H 𝓜 𝓖) (tablesOf 𝓤 H 𝓜 (tables 𝓤 H 𝓜 𝓡 code.env)) code.function
     (λ κ q d is. walk 𝓤 H (𝓖 .A) (givenOf 𝓤 H 𝓜 𝓖) (tablesOf 𝓤 H 𝓜 (tables 𝓤 H 𝓜 𝓡 code.env))
     (cited 𝓤 H (tripleOf 𝓤 H (𝓖 .A) place-after.signature (place-after.spec 𝓤 H (𝓖 .A) (𝓜 .mem) (𝓡 .run))) 𝓜 𝓡 code.env #reader·place-after place-after-def.routine code.calls-reader·place-after (place-after-thm.met 𝓤 H 𝓜 𝓖 𝓡))
     κ q d (reader-typed κ d 𝓤 H (𝓖 .A) (givenOf 𝓤 H 𝓜 𝓖) (named 0) (T′.lowered d) is)))

@@ -28,14 +28,13 @@ use denote.Triple.Entry.{onEntry}
 use denote.Triple.Spec.{tripleOf}
 use denote.Triple.Table.{entered, cited}
 use denote.Exit.{yes}
-use Rattle.parts.specs.Step.{stepAt}
 use Rattle.parts.specs.declared.Step.{Step}
 use Rattle.parts.proofs.Step as S
 use Rattle.parts.proofs.Step.Laws as S′
 use Rattle.reader.specs.Read.{readerAt, onward, secondStep}
 use Rattle.reader.specs.declared.PartReader.{PartReader}
 use Rattle.reader.proofs.Walks.{Slice, slice-passed, promise, asks, hands, Post, leaves, meets}
-use Rattle.reader.proofs.Held.{B, reader-passed, reader-typed}
+use Rattle.reader.proofs.Held.{B, reader-passed, reader-typed, saysNew, saysNext, stepOf, saysStep}
 use Rattle.reader.proofs.new as new
 use Rattle.reader.proofs.new.Symbol as new-def
 use Rattle.reader.proofs.new.Met as new-thm
@@ -53,32 +52,19 @@ use Rattle.reader.proofs.second.Code as code
 abbrev E : Lfts 1 → RattleType
 E κs = S.the-row
 
--- what stands at the place of a reader
-abbrev at : PartReader → Step
-at r = stepAt (now (r .stream)) (r .place)
-
--- what `new`, `next` and `step` say, and `second`
-abbrev news : Lfts 1 → RefT (List ℕ) × Unit {0} → PartReader → Type 0
-news κs a r = r ≡ readerAt (a .0) 0
-
-abbrev nexts : Lfts 1 → PartReader × Unit {0} → PartReader → Type 0
-nexts κs a r = r ≡ onward (a .0)
-
-abbrev steps : Lfts 1 → PartReader × Unit {0} → Step → Type 0
-steps κs a t = t ≡ at (a .0)
-
+-- what `second` says
 abbrev φ : Lfts 1 → RefT (List ℕ) × Unit {0} → Step → Type 0
 φ κs a t = t ≡ secondStep (now (a .0))
 
 module _ {M : Type 1} (𝓤 : URA M) (H : Heap 𝓤) (A : Atoms 𝓤) where
   abbrev New : Contract 𝓤
-  New = promise (plain Slice ∷ []) (yes, tt) B news 𝓤 H A
+  New = promise (plain Slice ∷ []) (yes, tt) B saysNew 𝓤 H A
 
   abbrev Next : Contract 𝓤
-  Next = promise (plain B ∷ []) (yes, tt) B nexts 𝓤 H A
+  Next = promise (plain B ∷ []) (yes, tt) B saysNext 𝓤 H A
 
   abbrev Steps : Contract 𝓤
-  Steps = promise (plain B ∷ []) (yes, tt) E steps 𝓤 H A
+  Steps = promise (plain B ∷ []) (yes, tt) E saysStep 𝓤 H A
 
   module _ (W : Given 𝓤 H A) (𝓣 : Tables 𝓤 H) (known-new : Triple 𝓤 (𝓣 .C new-def.name) New) (known-next : Triple 𝓤 (𝓣 .C next-def.name) Next) (known-step : Triple 𝓤 (𝓣 .C step-def.name) Steps) (κ : Lft) (q : Share) (s : RefT (List ℕ)) where
     -- the machine value that s has, and what s owns
@@ -89,9 +75,9 @@ module _ {M : Type 1} (𝓤 : URA M) (H : Heap 𝓤) (A : Atoms 𝓤) where
     Lent = Slice (κ, tt) .own s (v ∷ [])
 
     -- the three facts together
-    composed : (r r′ : PartReader) (t : Step) → r ≡ readerAt s 0 → r′ ≡ onward r → t ≡ at r′ → t ≡ secondStep (now s)
+    composed : (r r′ : PartReader) (t : Step) → r ≡ readerAt s 0 → r′ ≡ onward r → t ≡ stepOf r′ → t ≡ secondStep (now s)
     unfolding secondStep
-    composed r r′ t e e′ e″ = e″ ∙ ap at (e′ ∙ ap onward e)
+    composed r r′ t e e′ e″ = e″ ∙ ap stepOf (e′ ∙ ap onward e)
 
     abbrev fm : FmC 𝓤 H (W .laws) (𝓣 .C)
     fm = fmOf 𝓤 H (W .laws) 𝓣
@@ -102,14 +88,14 @@ module _ {M : Type 1} (𝓤 : URA M) (H : Heap 𝓤) (A : Atoms 𝓤) where
         alloc1 ! (λ l₀. alloc1 ! (λ l₁. alloc1 ! (λ l₂. alloc1 ! (λ l₃. alloc0 ! $ params1 ! $ pass1 ! (init ! 4 refl (shr-slice-lawful 𝓤 H A W (named 0) κ u8 .typed s (v ∷ []) is .0)) $ pass0 ! $
         move ! (9 ∷ []) $ fsplit ! $ move ! (1 ∷ []) $ drop ! $ use1 W (‵ Lent ⊛ ‵ Lent) (shr-slice-copy 𝓤 H A W (named 0) κ u8 .twice s (v ∷ [])) $ split ! $ move ! (0 ∷ 10 ∷ []) $
         -- before each call: [what is passed owns; the token; what s owns; _3; …; _2; …; _1; …; room for _0; …]
-        use2 W (raw (New .pre (((κ, tt), (q, tt), tt, (s, tt), (v ∷ [], tt)), tt))) (hands Slice B news slice-passed 𝓤 H A κ q s W v) $
-        asks (plain Slice ∷ []) (yes, tt) B news 𝓤 H A κ q (s, tt) (v ∷ [], tt) ! fm known-new (and-then ! (load ! (from ! (stop !)) (look ! 6 refl)) (no-more !)) (λ u r e is-r.
+        use2 W (raw (New .pre (((κ, tt), (q, tt), tt, (s, tt), (v ∷ [], tt)), tt))) (hands Slice B saysNew slice-passed 𝓤 H A κ q s W v) $
+        asks (plain Slice ∷ []) (yes, tt) B saysNew 𝓤 H A κ q (s, tt) (v ∷ [], tt) ! fm known-new (and-then ! (load ! (from ! (stop !)) (look ! 6 refl)) (no-more !)) (λ u r e is-r.
         land ! (from ! (stop !)) (init ! 3 refl (reader-typed κ r 𝓤 H A W erased u is-r)) $
-        use2 W (raw (Next .pre (((κ, tt), (q, tt), tt, (r, tt), (u ∷ [], tt)), tt))) (hands B B nexts reader-passed 𝓤 H A κ q r W u) $
-        asks (plain B ∷ []) (yes, tt) B nexts 𝓤 H A κ q (r, tt) (u ∷ [], tt) ! fm known-next (and-then ! (load ! (from ! (stop !)) (look ! 2 refl)) (no-more !)) (λ u′ r′ e′ is-r′.
+        use2 W (raw (Next .pre (((κ, tt), (q, tt), tt, (r, tt), (u ∷ [], tt)), tt))) (hands B B saysNext reader-passed 𝓤 H A κ q r W u) $
+        asks (plain B ∷ []) (yes, tt) B saysNext 𝓤 H A κ q (r, tt) (u ∷ [], tt) ! fm known-next (and-then ! (load ! (from ! (stop !)) (look ! 2 refl)) (no-more !)) (λ u′ r′ e′ is-r′.
         land ! (from ! (stop !)) (init ! 5 refl (reader-typed κ r′ 𝓤 H A W erased u′ is-r′)) $
-        use2 W (raw (Steps .pre (((κ, tt), (q, tt), tt, (r′, tt), (u′ ∷ [], tt)), tt))) (hands B E steps reader-passed 𝓤 H A κ q r′ W u′) $
-        asks (plain B ∷ []) (yes, tt) E steps 𝓤 H A κ q (r′, tt) (u′ ∷ [], tt) ! fm known-step (and-then ! (load ! (from ! (stop !)) (look ! 4 refl)) (no-more !)) (λ w t e″ is-t.
+        use2 W (raw (Steps .pre (((κ, tt), (q, tt), tt, (r′, tt), (u′ ∷ [], tt)), tt))) (hands B E saysStep reader-passed 𝓤 H A κ q r′ W u′) $
+        asks (plain B ∷ []) (yes, tt) E saysStep 𝓤 H A κ q (r′, tt) (u′ ∷ [], tt) ! fm known-step (and-then ! (load ! (from ! (stop !)) (look ! 4 refl)) (no-more !)) (λ w t e″ is-t.
         land ! (from ! (stop !)) (init ! 9 refl (EL.lawful S.the-type S′.the-laws 𝓤 H A W tt .typed t (w ∷ []) is-t .0)) $
         returns ! (look ! 9 refl) $ forget ! 3 refl $ forget ! 5 refl $ forget ! 7 refl $ forget ! 9 refl $
         move ! (9 ∷ 10 ∷ []) $ free1 ! $ move ! (7 ∷ 8 ∷ []) $ free1 ! $ move ! (5 ∷ 6 ∷ []) $ free1 ! $ move ! (3 ∷ 4 ∷ []) $ free1 ! $ free0 ! $
