@@ -26,6 +26,6 @@ readerAt s p = record { stream = s; place = p }
 abbrev pub onward : PartReader → PartReader
 onward r = readerAt (r .stream) (placeAfter (now (r .stream)) (r .place))
 
--- what stands behind the first part of the stream `s`
+-- the step after the first over the stream `s`: behind a part, or the same again where none stands
 unfoldable pub secondStep : List ℕ → Step
 secondStep s = stepAt s (placeAfter s 0)

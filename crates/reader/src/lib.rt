@@ -58,7 +58,7 @@ pub fn next<'a>(r: PartReader<'a>) -> PartReader<'a>
     }
 }
 
-// What stands behind the first part of a stream: for callers that hold no reader.
+// The step after the first, for callers that hold no reader: behind a part, or the same again where none stands.
 pub fn second(stream: &[u8]) -> Step
     ensures { λ s. ⌜ s ≡ secondStep (now (stream .entry)) ⌝ }
 {
