@@ -1,6 +1,7 @@
-.PHONY: run test
+.PHONY: run test bench
 
 reference = rust/reference/target/release/glint-reference
+library = target/staticlib/libcapi.a
 
 run:
 	cargo build --quiet --release --offline --manifest-path rust/reference/Cargo.toml
@@ -8,3 +9,12 @@ run:
 
 test:
 	.ci/run
+
+# Times of the emulator's calls against memcpy and plain Rust.
+bench: $(library)
+	cargo build --quiet --release --offline --manifest-path rust/bench/Cargo.toml
+	rust/bench/target/release/glint-bench
+
+# Proves what it links where that has changed; remove the file to have it made anew.
+$(library):
+	rt staticlib capi

@@ -1,0 +1,577 @@
+//! What a Rust programmer would write for the same calls: the same checks in the same order, on
+//! the state by reference, run by run, with the standard library's copies and fills.
+
+use glint_boundary::{Mapping, Register, Registers, State, Table, CAPACITY, REGISTERS};
+
+const PAGE: u64 = 4096;
+const DEVICE_LIMIT: u64 = 1 << 48;
+const MEMORY_LIMIT: u64 = 1 << 30;
+const LENGTH_LIMIT: usize = 65536;
+
+const READ: u32 = 1;
+const WRITE: u32 = 2;
+const WRITTEN: u8 = 1;
+
+#[derive(Clone, Copy, Debug, PartialEq, Eq)]
+pub struct Refusal {
+    pub code: u32,
+    pub place: u64,
+}
+
+pub type Answer<T> = Result<T, Refusal>;
+
+fn at<T>(code: u32, place: u64) -> Answer<T> {
+    Err(Refusal { code, place })
+}
+
+fn refuse<T>(code: u32) -> Answer<T> {
+    at(code, 0)
+}
+
+// ---- refusal 1
+
+fn sound(state: &State) -> bool {
+    state.memory_length <= MEMORY_LIMIT
+        && sound_table(&state.table, state.memory_length)
+        && sound_registers(&state.registers)
+}
+
+fn sound_table(table: &Table, length: u64) -> bool {
+    let Some(held) = table.entries.get(..table.count) else {
+        return false;
+    };
+    let mut low = 0;
+    for m in held {
+        if m.device < low || !sound_mapping(m, length) {
+            return false;
+        }
+        low = m.device + m.size;
+    }
+    true
+}
+
+/// Subtractions stand where sums could wrap: a size is at most the length, which is at most 2^30.
+fn sound_mapping(m: &Mapping, length: u64) -> bool {
+    (m.device | m.memory | m.size).is_multiple_of(PAGE)
+        && m.size != 0
+        && m.size <= length
+        && m.memory <= length - m.size
+        && m.device <= DEVICE_LIMIT - m.size
+        && (1..=3).contains(&m.rights)
+}
+
+const STATUS: usize = 5;
+
+fn sound_registers(registers: &Registers) -> bool {
+    let slots = &registers.slots;
+    slots[STATUS].set
+        && slots
+            .iter()
+            .enumerate()
+            .all(|(slot, r)| !r.set || good_content(slot + 1, &r.bytes).is_ok())
+}
+
+fn usable(state: &State, memory: &[u8], marks: &[u8]) -> bool {
+    memory.len() == marks.len() && memory.len() as u64 == state.memory_length && sound(state)
+}
+
+// ---- moves
+
+fn check_range(device: u64, length: usize) -> Answer<()> {
+    if length > LENGTH_LIMIT {
+        return refuse(13);
+    }
+    if device > DEVICE_LIMIT - length as u64 {
+        return refuse(9);
+    }
+    Ok(())
+}
+
+/// The held mappings from the first one on that ends past a device address.
+fn from(table: &Table, device: u64) -> &[Mapping] {
+    let held = &table.entries[..table.count];
+    &held[held.partition_point(|m| m.device + m.size <= device)..]
+}
+
+/// Calls `run` with the offset, the place in memory, the length and the rights of each run.
+fn runs(
+    table: &Table,
+    device: u64,
+    length: usize,
+    mut run: impl FnMut(usize, usize, usize, u32) -> Answer<()>,
+) -> Answer<()> {
+    let mut offset = 0;
+    let mut mappings = from(table, device).iter();
+    while offset < length {
+        let address = device + offset as u64;
+        let m = match mappings.next() {
+            Some(m) if m.device <= address => m,
+            _ => return at(14, offset as u64),
+        };
+        let skip = address - m.device;
+        let n = (m.size - skip).min((length - offset) as u64) as usize;
+        run(offset, (m.memory + skip) as usize, n, m.rights)?;
+        offset += n;
+    }
+    Ok(())
+}
+
+/// The first mark that does not say written. Whole blocks are judged without a way out, so that
+/// the compiler vectorises them.
+fn first_unwritten(marks: &[u8]) -> Option<usize> {
+    let blocks = marks.chunks_exact(128);
+    let good = blocks
+        .clone()
+        .take_while(|block| block.iter().fold(0, |bad, mark| bad | (mark ^ WRITTEN)) == 0)
+        .count();
+    let rest = good * 128;
+    marks[rest..]
+        .iter()
+        .position(|mark| *mark != WRITTEN)
+        .map(|i| rest + i)
+}
+
+#[inline(never)]
+pub fn card_read(
+    state: &State,
+    memory: &[u8],
+    marks: &[u8],
+    device: u64,
+    buffer: &mut [u8],
+) -> Answer<u64> {
+    if !usable(state, memory, marks) {
+        return refuse(1);
+    }
+    check_range(device, buffer.len())?;
+    runs(
+        &state.table,
+        device,
+        buffer.len(),
+        |offset, place, n, rights| {
+            if rights & READ == 0 {
+                return at(15, offset as u64);
+            }
+            match first_unwritten(&marks[place..place + n]) {
+                Some(i) => at(16, (offset + i) as u64),
+                None => Ok(()),
+            }
+        },
+    )?;
+    runs(&state.table, device, buffer.len(), |offset, place, n, _| {
+        buffer[offset..offset + n].copy_from_slice(&memory[place..place + n]);
+        Ok(())
+    })?;
+    Ok(0)
+}
+
+#[inline(never)]
+pub fn card_write(
+    state: &State,
+    memory: &mut [u8],
+    marks: &mut [u8],
+    device: u64,
+    bytes: &[u8],
+) -> Answer<u64> {
+    if !usable(state, memory, marks) {
+        return refuse(1);
+    }
+    check_range(device, bytes.len())?;
+    runs(&state.table, device, bytes.len(), |offset, _, _, rights| {
+        if rights & WRITE == 0 {
+            return at(15, offset as u64);
+        }
+        Ok(())
+    })?;
+    runs(&state.table, device, bytes.len(), |offset, place, n, _| {
+        memory[place..place + n].copy_from_slice(&bytes[offset..offset + n]);
+        marks[place..place + n].fill(WRITTEN);
+        Ok(())
+    })?;
+    Ok(0)
+}
+
+fn check_host(size: usize, address: u64, length: usize) -> Answer<usize> {
+    if length > LENGTH_LIMIT {
+        return refuse(13);
+    }
+    if address > size as u64 || length > size - address as usize {
+        return refuse(9);
+    }
+    Ok(address as usize)
+}
+
+#[inline(never)]
+pub fn host_store(
+    state: &State,
+    memory: &mut [u8],
+    marks: &mut [u8],
+    address: u64,
+    bytes: &[u8],
+) -> Answer<u64> {
+    if !usable(state, memory, marks) {
+        return refuse(1);
+    }
+    let place = check_host(memory.len(), address, bytes.len())?;
+    memory[place..place + bytes.len()].copy_from_slice(bytes);
+    marks[place..place + bytes.len()].fill(WRITTEN);
+    Ok(0)
+}
+
+#[inline(never)]
+pub fn host_load(
+    state: &State,
+    memory: &[u8],
+    marks: &[u8],
+    address: u64,
+    buffer: &mut [u8],
+) -> Answer<u64> {
+    if !usable(state, memory, marks) {
+        return refuse(1);
+    }
+    let place = check_host(memory.len(), address, buffer.len())?;
+    if let Some(i) = first_unwritten(&marks[place..place + buffer.len()]) {
+        return at(16, i as u64);
+    }
+    buffer.copy_from_slice(&memory[place..place + buffer.len()]);
+    Ok(0)
+}
+
+#[inline(never)]
+pub fn look_up(state: &State, device: u64) -> Answer<(u64, u32)> {
+    if !sound(state) {
+        return refuse(1);
+    }
+    if device >= DEVICE_LIMIT {
+        return refuse(9);
+    }
+    match from(&state.table, device).first() {
+        Some(m) if m.device <= device => Ok((m.memory + (device - m.device), m.rights)),
+        _ => refuse(14),
+    }
+}
+
+// ---- map and unmap, each behind the checks of a request
+
+fn field<const N: usize>(buffer: &[u8], at: usize) -> [u8; N] {
+    buffer[at..at + N].try_into().unwrap()
+}
+
+fn u16_at(buffer: &[u8], at: usize) -> u16 {
+    u16::from_le_bytes(field(buffer, at))
+}
+
+fn u32_at(buffer: &[u8], at: usize) -> u32 {
+    u32::from_le_bytes(field(buffer, at))
+}
+
+fn u64_at(buffer: &[u8], at: usize) -> u64 {
+    u64::from_le_bytes(field(buffer, at))
+}
+
+#[inline(never)]
+pub fn request(
+    state: &mut State,
+    memory: &[u8],
+    marks: &[u8],
+    target: u32,
+    number: u32,
+    buffer: &mut [u8],
+) -> Answer<u64> {
+    if !usable(state, memory, marks) {
+        return refuse(1);
+    }
+    match (target, number) {
+        (0, 113) => {
+            check_argsz(buffer, 32)?;
+            map(state, buffer)
+        }
+        (0, 114) => {
+            check_argsz(buffer, 24)?;
+            unmap(state, buffer)
+        }
+        _ => refuse(2), // the others are not measured
+    }
+}
+
+fn check_argsz(buffer: &[u8], size: usize) -> Answer<()> {
+    if buffer.len() < size {
+        return refuse(3);
+    }
+    let argsz = u32_at(buffer, 0) as usize;
+    if argsz < size || argsz > buffer.len() {
+        return refuse(4);
+    }
+    Ok(())
+}
+
+fn ends_within(start: u64, size: u64, limit: u64) -> bool {
+    start <= limit && size <= limit - start
+}
+
+fn map(state: &mut State, buffer: &[u8]) -> Answer<u64> {
+    let new = Mapping {
+        rights: u32_at(buffer, 4),
+        memory: u64_at(buffer, 8),
+        device: u64_at(buffer, 16),
+        size: u64_at(buffer, 24),
+    };
+    if !(1..=3).contains(&new.rights) {
+        return refuse(5);
+    }
+    if new.size == 0 {
+        return refuse(8);
+    }
+    if !(new.device | new.memory | new.size).is_multiple_of(PAGE) {
+        return refuse(7);
+    }
+    if !ends_within(new.device, new.size, DEVICE_LIMIT)
+        || !ends_within(new.memory, new.size, state.memory_length)
+    {
+        return refuse(9);
+    }
+    let table = &mut state.table;
+    let held = &table.entries[..table.count];
+    let place = held.partition_point(|m| m.device + m.size <= new.device);
+    if held
+        .get(place)
+        .is_some_and(|m| m.device < new.device + new.size)
+    {
+        return refuse(10);
+    }
+    if table.count == CAPACITY {
+        return refuse(11);
+    }
+    table.entries.copy_within(place..table.count, place + 1);
+    table.entries[place] = new;
+    table.count += 1;
+    Ok(0)
+}
+
+fn unmap(state: &mut State, buffer: &mut [u8]) -> Answer<u64> {
+    let (device, size) = (u64_at(buffer, 8), u64_at(buffer, 16));
+    if u32_at(buffer, 4) != 0 {
+        return refuse(5);
+    }
+    if size == 0 {
+        return refuse(8);
+    }
+    if !(device | size).is_multiple_of(PAGE) {
+        return refuse(7);
+    }
+    if !ends_within(device, size, DEVICE_LIMIT) {
+        return refuse(9);
+    }
+    let table = &mut state.table;
+    let held = &table.entries[..table.count];
+    let end = device + size;
+    let first = held.partition_point(|m| m.device + m.size <= device);
+    let past = held.partition_point(|m| m.device < end);
+    let inside = &held[first..past];
+    if let (Some(low), Some(high)) = (inside.first(), inside.last()) {
+        if low.device < device || high.device + high.size > end {
+            return refuse(12);
+        }
+    }
+    let removed: u64 = inside.iter().map(|m| m.size).sum();
+    table.entries.copy_within(past..table.count, first);
+    table.count -= past - first;
+    buffer[16..24].copy_from_slice(&removed.to_le_bytes());
+    Ok(0)
+}
+
+// ---- registers and parts
+
+const OFFERED: u64 = 0x1_3000_0000;
+const HEADER: usize = 16;
+const ROWS: usize = REGISTERS + 1;
+
+/// Type, selector and size of each register; row 0 is offered features, row `i + 1` slot `i`.
+const TABLE: [(u16, u64, usize); ROWS] = [
+    (0x100, 0, 8),
+    (0x101, 0, 8),
+    (0x102, 0, 4),
+    (0x102, 8, 4),
+    (0x102, 16, 2),
+    (0x102, 22, 2),
+    (0x103, 0, 1),
+    (0x104, 0, 32),
+    (0x104, 1, 32),
+    (0x104, 2, 32),
+    (0x104, 3, 32),
+    (0x105, 0, 8),
+    (0x105, 1, 8),
+    (0x105, 2, 8),
+    (0x105, 3, 8),
+];
+
+/// What a value of the right length must satisfy. `v` may have more bytes behind it.
+fn good_content(row: usize, v: &[u8]) -> Answer<()> {
+    let good = match row {
+        0 if u64_at(v, 0) != OFFERED => return refuse(23),
+        1 if u64_at(v, 0) & !OFFERED != 0 => return refuse(23),
+        7..=10 => good_queue(v),
+        11..=14 => u32_at(v, 4) == 0,
+        _ => true,
+    };
+    if good {
+        Ok(())
+    } else {
+        refuse(22)
+    }
+}
+
+fn good_queue(v: &[u8]) -> bool {
+    let size = u16_at(v, 0);
+    size.is_power_of_two()
+        && size <= 256
+        && u16_at(v, 4) <= 1
+        && u16_at(v, 6) == 0
+        && u64_at(v, 8).is_multiple_of(16)
+        && u64_at(v, 16).is_multiple_of(2)
+        && u64_at(v, 24).is_multiple_of(4)
+}
+
+#[inline(never)]
+pub fn save_parts(state: &State, buffer: &mut [u8]) -> Answer<u64> {
+    if !sound(state) {
+        return refuse(1);
+    }
+    if state.running {
+        return refuse(17);
+    }
+    let slots = &state.registers.slots;
+    let set = |row: usize| row == 0 || slots[row - 1].set;
+    let length: usize = (0..ROWS)
+        .filter(|row| set(*row))
+        .map(|row| HEADER + TABLE[row].2)
+        .sum();
+    if buffer.len() < length {
+        return refuse(27);
+    }
+    let offered = OFFERED.to_le_bytes();
+    let mut rest = &mut buffer[..length];
+    for row in (0..ROWS).filter(|row| set(*row)) {
+        let (kind, selector, size) = TABLE[row];
+        let value = if row == 0 {
+            &offered[..]
+        } else {
+            &slots[row - 1].bytes[..size]
+        };
+        let (part, behind) = rest.split_at_mut(HEADER + size);
+        part[..2].copy_from_slice(&kind.to_le_bytes());
+        part[2] = (row == 0) as u8;
+        part[3] = 0;
+        part[4..12].copy_from_slice(&selector.to_le_bytes());
+        part[12..16].copy_from_slice(&(size as u32).to_le_bytes());
+        part[HEADER..].copy_from_slice(value);
+        rest = behind;
+    }
+    Ok(length as u64)
+}
+
+#[inline(never)]
+pub fn load_parts(state: &mut State, stream: &[u8]) -> Answer<u64> {
+    if !sound(state) {
+        return refuse(1);
+    }
+    if state.running {
+        return refuse(17);
+    }
+    if stream.len() > LENGTH_LIMIT {
+        return refuse(13);
+    }
+    let mut loaded = Registers::default();
+    let mut offered_seen = false;
+    let mut rest = stream;
+    while !rest.is_empty() {
+        let start = (stream.len() - rest.len()) as u64;
+        let place = |refusal: Refusal| Refusal {
+            place: start,
+            ..refusal
+        };
+        let (part, behind) = next_part(rest).map_err(place)?;
+        rest = behind;
+        let Some(row) = row_of(&part).map_err(place)? else {
+            continue;
+        };
+        let (_, _, size) = TABLE[row];
+        if part.value.len() != size {
+            return at(22, start);
+        }
+        let seen = if row == 0 {
+            offered_seen
+        } else {
+            loaded.slots[row - 1].set
+        };
+        if seen {
+            return at(21, start);
+        }
+        good_content(row, part.value).map_err(place)?;
+        if row == 0 {
+            offered_seen = true;
+        } else {
+            let mut bytes = [0; 32];
+            bytes[..size].copy_from_slice(part.value);
+            loaded.slots[row - 1] = Register { set: true, bytes };
+        }
+    }
+    if !loaded.slots[STATUS].set {
+        return at(24, stream.len() as u64);
+    }
+    state.registers = loaded;
+    Ok(0)
+}
+
+struct Part<'a> {
+    kind: u16,
+    optional: bool,
+    selector: u64,
+    value: &'a [u8],
+}
+
+fn next_part(rest: &[u8]) -> Answer<(Part<'_>, &[u8])> {
+    let Some((header, behind)) = rest.split_at_checked(HEADER) else {
+        return refuse(18);
+    };
+    if header[2] > 1 || header[3] != 0 {
+        return refuse(19);
+    }
+    let Some((value, behind)) = behind.split_at_checked(u32_at(header, 12) as usize) else {
+        return refuse(18);
+    };
+    let part = Part {
+        kind: u16_at(header, 0),
+        optional: header[2] == 1,
+        selector: u64_at(header, 4),
+        value,
+    };
+    Ok((part, behind))
+}
+
+/// The row of a part; nothing for one that is skipped.
+fn row_of(part: &Part) -> Answer<Option<usize>> {
+    let limit = match part.kind {
+        0x600.. => return refuse(20),
+        0x102 => 1 << 32,
+        0x104 | 0x105 => 1 << 16,
+        0x100 | 0x101 | 0x103 => 1,
+        _ if part.optional => return Ok(None),
+        _ => return refuse(20),
+    };
+    if part.optional != (part.kind == 0x100) || part.selector >= limit {
+        return refuse(19);
+    }
+    let row = match (part.kind, part.selector) {
+        (0x100, _) => 0,
+        (0x101, _) => 1,
+        (0x102, 0) => 2,
+        (0x102, 8) => 3,
+        (0x102, 16) => 4,
+        (0x102, 22) => 5,
+        (0x103, _) => 6,
+        (0x104, queue @ 0..=3) => 7 + queue as usize,
+        (0x105, queue @ 0..=3) => 11 + queue as usize,
+        _ => return refuse(6),
+    };
+    Ok(Some(row))
+}
