@@ -2,19 +2,27 @@
 use Prim.Native.Nat.{ℕ, zero, suc, _+_, _-_, _^_, _≤_, _<_}
 use native.Mathlib.Numerals.{add-one}
 use native.Mathlib.Omega.{arith}
-use mathlib.Core.Path.{_≡_, refl}
-use mathlib.Core.Bool.{Bool, true, false}
+use mathlib.Core.Path.{_≡_, refl, sym, _∙_}
+use mathlib.Core.Bool.{Bool, true, false, false≢true}
 use mathlib.Core.List.{map}
 use lib.ListN.{getD, List·getD-map}
 use lib.Dec.{eqb, ltb, leb}
-use borrow.Author.Tests.{eq-eqb, ne-eqb, eqb-true, leb-true, ltb-true}
-use Rattle.answer.specs.Tests.{_and_, pick}
-use Rattle.answer.proofs.Tests.{and-true, below, below-at}
+use borrow.Author.Tests.{eq-eqb, ne-eqb, eqb-true, leb-true, ltb-true, le-ltb}
+use Rattle.answer.specs.Tests.{_and_, _or_, pick}
+use Rattle.answer.proofs.Tests.{and-true, or-made, below, below-at}
 use Rattle.registers.specs.Rows.{Row, rows, noRow, rowCount, OfferedFeatures, DriverFeatures, QueueConfig, NotifyConfig, kindOf, selectorOf, sizeOf, rowFrom, rowOf, selects}
 
 -- A column of the table: a list that computes to it has at each place what the row there has.
 pub column : (f : Row → ℕ) (i : ℕ) → getD (map f rows) i (f noRow) ≡ f (getD rows i noRow)
 column f i = List·getD-map f rows i noRow
+
+-- A column that has one value over a range of rows, which is computed.
+pub in-range : (f : ℕ → ℕ) (x low high : ℕ) → below (λ i. ltb i low or eqb (f i) x) high ≡ true → (i : ℕ) → low ≤ i → i < high → x ≡ f i
+in-range f x low high all i p q = go (ltb i low) (eqb (f i) x) (le-ltb i low p) refl (below-at (λ k. ltb k low or eqb (f k) x) high all i q)
+  where
+    go : (s t : Bool) → s ≡ false → eqb (f i) x ≡ t → (s or t) ≡ true → x ≡ f i
+    go s true e h k = sym (eqb-true (f i) x h)
+    go s false e h k = absurd (false≢true (sym (or-made s false e refl) ∙ k))
 
 -- ---- rules of the rows
 

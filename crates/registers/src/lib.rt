@@ -47,33 +47,30 @@ pub const ROWS: usize = 15;
 
 pub const STATUS_ROW: usize = 6;
 
-const KINDS: [u64; 15] = [
-    OFFERED_FEATURES,
-    DRIVER_FEATURES,
-    COMMON_FIELD,
-    COMMON_FIELD,
-    COMMON_FIELD,
-    COMMON_FIELD,
-    DEVICE_STATUS,
-    QUEUE_CONFIG,
-    QUEUE_CONFIG,
-    QUEUE_CONFIG,
-    QUEUE_CONFIG,
-    NOTIFY_CONFIG,
-    NOTIFY_CONFIG,
-    NOTIFY_CONFIG,
-    NOTIFY_CONFIG,
-];
-
 const SELECTORS: [u64; 15] = [0, 0, 0, 8, 16, 22, 0, 0, 1, 2, 3, 0, 1, 2, 3];
 
-const SIZES: [usize; 15] = [8, 8, 4, 4, 2, 2, 1, 32, 32, 32, 32, 8, 8, 8, 8];
-
+// Types and sizes go by ranges of rows: soundness asks for both of every register in every call, and a constant table that is indexed is
+// built anew on the stack each time.
 pub fn kind_of(row: usize) -> u64
     requires { ⌜ row < rowCount ⌝ }
     ensures { λ r. ⌜ r ≡ kindOf row ⌝ }
 {
-    KINDS[row]
+    if row < 1 {
+        return OFFERED_FEATURES;
+    }
+    if row < 2 {
+        return DRIVER_FEATURES;
+    }
+    if row < 6 {
+        return COMMON_FIELD;
+    }
+    if row < 7 {
+        return DEVICE_STATUS;
+    }
+    if row < 11 {
+        return QUEUE_CONFIG;
+    }
+    NOTIFY_CONFIG
 }
 
 pub fn selector_of(row: usize) -> u64
@@ -87,7 +84,22 @@ pub fn size_of(row: usize) -> usize
     requires { ⌜ row < rowCount ⌝ }
     ensures { λ r. ⌜ r ≡ sizeOf row ⌝ }
 {
-    SIZES[row]
+    if row < 2 {
+        return 8;
+    }
+    if row < 4 {
+        return 4;
+    }
+    if row < 6 {
+        return 2;
+    }
+    if row < 7 {
+        return 1;
+    }
+    if row < 11 {
+        return 32;
+    }
+    8
 }
 
 // The row of a type and a selector number, or `ROWS`.
