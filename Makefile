@@ -1,4 +1,6 @@
-.PHONY: run test bench
+.PHONY: run test bench fuzz
+
+SECONDS = 60
 
 reference = rust/reference/target/release/glint-reference
 library = target/staticlib/libcapi.a
@@ -14,6 +16,11 @@ test:
 bench: $(library)
 	cargo build --quiet --release --offline --manifest-path rust/bench/Cargo.toml
 	rust/bench/target/release/glint-bench
+
+# Generated calls on the emulator and on the second program, for SECONDS, from new seeds.
+fuzz: $(library)
+	cargo build --quiet --release --offline --manifest-path rust/differential/Cargo.toml
+	rust/differential/target/release/glint-differential --seconds $(SECONDS)
 
 # Proves what it links where that has changed; remove the file to have it made anew.
 $(library):

@@ -175,3 +175,36 @@ fn call_alone(arguments: &[String]) -> Option<()> {
     program(&mut measure.world, count.parse().ok()?);
     Some(())
 }
+
+#[cfg(test)]
+mod tests {
+    use super::*;
+
+    /// What a call leaves: buffer, memory, marks, and the state but for what means nothing.
+    fn left(measure: &Measure, program: Program) -> (bool, Vec<u8>, Vec<u8>, Vec<u8>, usize) {
+        let mut world = World::new(measure.held, measure.world.size.min(65536));
+        world.state = measure.world.state;
+        world.map = measure.world.map;
+        world.unmap = measure.world.unmap;
+        world.size = measure.world.size;
+        let stream = measure.world.buffer.get();
+        world.buffer.get_mut().copy_from_slice(stream);
+        let accepted = program(&mut world, 1);
+        (
+            accepted,
+            world.buffer.get().to_vec(),
+            world.memory.get().to_vec(),
+            world.marks.get().to_vec(),
+            world.state.table.count,
+        )
+    }
+
+    #[test]
+    fn the_plain_program_does_what_the_emulator_does() {
+        for measure in measures() {
+            let emulator = left(&measure, measure.call.emulator);
+            let plain = left(&measure, measure.call.plain);
+            assert!(emulator == plain, "{} {}", measure.call.name, measure.held);
+        }
+    }
+}

@@ -1,0 +1,162 @@
+//! States that are not sound, each by one cause.
+
+use std::fmt::Write;
+
+use glint_boundary::{Mapping, State};
+
+use crate::random::Random;
+use crate::streams;
+
+const PAGE: u64 = 4096;
+const TOP: u64 = 1 << 48;
+const MEMORY_LIMIT: u64 = 1 << 30;
+
+/// The causes, as document 01 lists what a sound state is.
+#[rustfmt::skip]
+pub const CAUSES: [&str; 19] = [
+    "more than 64 mappings",
+    "mappings out of order",
+    "mappings that overlap",
+    "one mapping twice",
+    "device address not aligned",
+    "memory address not aligned",
+    "size not aligned",
+    "size 0",
+    "rights 0",
+    "rights above 3",
+    "ends past 2^48",
+    "device end wraps",
+    "ends past the noted length",
+    "memory end wraps",
+    "noted length above 2^30",
+    "status not set",
+    "driver features not offered",
+    "queue value",
+    "notify value",
+];
+
+#[derive(Default)]
+pub struct Damages {
+    counts: [u64; CAUSES.len()],
+}
+
+impl Damages {
+    pub fn count(&mut self, cause: usize) {
+        self.counts[cause] += 1;
+    }
+
+    pub fn add(&mut self, other: &Damages) {
+        for (count, more) in self.counts.iter_mut().zip(other.counts) {
+            *count += more;
+        }
+    }
+
+    pub fn table(&self) -> String {
+        let mut table = String::new();
+        for (cause, count) in CAUSES.iter().zip(self.counts) {
+            writeln!(table, "not sound: {cause}: {count}").unwrap();
+        }
+        table
+    }
+
+    pub fn faults(&self) -> Vec<String> {
+        let missing = CAUSES
+            .iter()
+            .zip(self.counts)
+            .filter(|(_, count)| *count == 0);
+        missing
+            .map(|(cause, _)| format!("no state was unsound by: {cause}"))
+            .collect()
+    }
+}
+
+/// The state with one thing wrong, and the index of the cause. Where that needs mappings, it has
+/// two at least.
+pub fn damaged(sound: &State, random: &mut Random) -> (usize, State) {
+    let mut state = *sound;
+    let cause = random.below(CAUSES.len() as u64) as usize;
+    let table = &mut state.table;
+    if cause < 14 && table.count < 2 {
+        table.count = 2;
+        for (i, m) in table.entries[..2].iter_mut().enumerate() {
+            *m = Mapping {
+                device: (i as u64 + 1) * PAGE,
+                memory: 0,
+                size: PAGE,
+                rights: 3,
+            };
+        }
+    }
+    let last = table.count.clamp(1, 64) - 1;
+    let i = random.below(last as u64 + 1) as usize;
+    let m = &mut table.entries[i];
+    match CAUSES[cause] {
+        "more than 64 mappings" => table.count = random.pick(&[65, 66, 128, 1 << 32, usize::MAX]),
+        "mappings out of order" => {
+            let j = random.below(last as u64) as usize;
+            table.entries.swap(j, j + 1);
+        }
+        "mappings that overlap" => {
+            let j = random.below(last as u64) as usize;
+            let next = table.entries[j + 1].device;
+            let m = &mut table.entries[j];
+            m.size = next - m.device + PAGE;
+        }
+        "one mapping twice" => {
+            let j = random.below(last as u64) as usize;
+            table.entries[j + 1] = table.entries[j];
+        }
+        "device address not aligned" => m.device ^= 1 << random.below(12),
+        "memory address not aligned" => m.memory ^= 1 << random.below(12),
+        "size not aligned" => m.size ^= 1 << random.below(12),
+        "size 0" => m.size = 0,
+        "rights 0" => m.rights = 0,
+        "rights above 3" => m.rights = random.pick(&[4, 5, 7, 0x103, 0x8000_0001, u32::MAX]),
+        "ends past 2^48" => {
+            let m = &mut table.entries[last];
+            m.device = TOP - m.size + PAGE;
+        }
+        "device end wraps" => {
+            let m = &mut table.entries[last];
+            m.device = 0u64.wrapping_sub(m.size);
+        }
+        "ends past the noted length" => {
+            m.memory = (state.memory_length / PAGE * PAGE + PAGE).saturating_sub(m.size);
+        }
+        "memory end wraps" => m.memory = 0u64.wrapping_sub(m.size),
+        "noted length above 2^30" => {
+            state.memory_length = random.pick(&[MEMORY_LIMIT + 1, MEMORY_LIMIT + PAGE, u64::MAX]);
+        }
+        "status not set" => state.registers.slots[5].set = false,
+        "driver features not offered" => {
+            let register = &mut state.registers.slots[0];
+            register.set = true;
+            let features = random.number() | 1 << random.pick(&[0, 27, 30, 31, 33, 63]);
+            register.bytes[..8].copy_from_slice(&features.to_le_bytes());
+        }
+        "queue value" => {
+            let slot = 6 + random.below(4) as usize;
+            let register = &mut state.registers.slots[slot];
+            register.set = true;
+            let mut value = streams::good_value(0x104, 32, random);
+            // Of the ways to spoil it, those that leave it good are left out.
+            match random.below(6) {
+                0 => value[..2].copy_from_slice(&random.pick(&[0u16, 3, 512, 257]).to_le_bytes()),
+                1 => value[4..6].copy_from_slice(&random.pick(&[2u16, 256]).to_le_bytes()),
+                2 => value[6 + random.below(2) as usize] = random.pick(&[1, 128]),
+                3 => value[8] |= random.pick(&[1, 2, 4, 8]),
+                4 => value[16] |= 1,
+                _ => value[24] |= random.pick(&[1, 2]),
+            }
+            register.bytes.copy_from_slice(&value);
+        }
+        "notify value" => {
+            let slot = 10 + random.below(4) as usize;
+            let register = &mut state.registers.slots[slot];
+            register.set = true;
+            register.bytes[4 + random.below(4) as usize] = random.pick(&[1, 128]);
+        }
+        _ => unreachable!(),
+    }
+    (cause, state)
+}

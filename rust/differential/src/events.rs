@@ -1,0 +1,206 @@
+//! What must happen in a run beyond the pairs: the cases that the paper warns of, and the edges at
+//! which a call is still accepted.
+
+use std::fmt::Write;
+
+use glint_reference::bytes::number_at;
+
+use crate::call::{Answer, Call, Made, Step};
+use crate::trio::Trio;
+
+const TOP: u64 = 1 << 48;
+const LONGEST: usize = 65_536;
+
+#[rustfmt::skip]
+pub const EVENTS: [&str; 24] = [
+    "card read of 65,536 bytes accepted",
+    "card write of 65,536 bytes accepted",
+    "host store of 65,536 bytes accepted",
+    "host load of 65,536 bytes accepted",
+    "card move of 0 bytes at 2^48 accepted",
+    "host move of 0 bytes at the end of memory accepted",
+    "forget of 0 bytes at the end of memory accepted",
+    "card move over several mappings accepted",
+    "card write that stores a byte twice",
+    "fault of a move behind a mapping's end",
+    "map that encloses a held mapping gives 10",
+    "map whose end wraps gives 9",
+    "map that ends at 2^48 accepted",
+    "map as the 64th accepted",
+    "map between two held mappings accepted",
+    "unmap of the whole device space accepted",
+    "unmap of several mappings at once",
+    "unmap of nothing accepted",
+    "stream of 65,536 bytes accepted",
+    "load that unsets a register",
+    "save into exactly enough room",
+    "container 101 with 3 gives 1",
+    "container 101 with another number gives 0",
+    "host load of a byte with a mark above 1 gives 16",
+];
+
+#[derive(Default)]
+pub struct Events {
+    counts: [u64; EVENTS.len()],
+}
+
+/// What has to be known from before the call.
+#[derive(Default)]
+pub struct Before {
+    held: usize,
+    registers: usize,
+    /// Of a card move: how many mappings it meets, and whether two of them show one byte.
+    met: usize,
+    twice: bool,
+    /// Of a map: whether it encloses a held mapping.
+    encloses: bool,
+    /// Of a map: how many held mappings lie below it.
+    below: usize,
+}
+
+impl Events {
+    pub fn before(step: &Step, trio: &Trio) -> Before {
+        let state = &trio.state;
+        let mut before = Before {
+            held: state.mappings.len(),
+            registers: state.registers.len(),
+            ..Before::default()
+        };
+        let Step::Make(made) = step else {
+            return before;
+        };
+        match made.call {
+            Call::CardRead { device } | Call::CardWrite { device } => {
+                let end = u128::from(device) + made.buffer.len() as u128;
+                let range = glint_reference::bench::DeviceRange {
+                    first: u128::from(device),
+                    end,
+                };
+                let met: Vec<_> = state
+                    .mappings
+                    .iter()
+                    .filter(|m| range.first < range.end && m.shares_with(range))
+                    .collect();
+                before.met = met.len();
+                before.twice = met.windows(2).any(|two| two[0].memory == two[1].memory)
+                    && made.buffer.len() > 4096 + 64;
+            }
+            Call::Request {
+                target: 0,
+                number: 113,
+            } if made.buffer.len() >= 32 => {
+                let device = u128::from(number_at(&made.buffer, 16, 8));
+                let end = device + u128::from(number_at(&made.buffer, 24, 8));
+                before.encloses = state
+                    .mappings
+                    .iter()
+                    .any(|m| device < m.range().first && m.range().end < end);
+                before.below = state
+                    .mappings
+                    .iter()
+                    .filter(|m| m.range().first < device)
+                    .count();
+            }
+            _ => {}
+        }
+        before
+    }
+
+    pub fn count(&mut self, before: Before, made: &Made, answer: &Answer, trio: &Trio) {
+        if made.given.is_some() {
+            return;
+        }
+        let length = made.buffer.len();
+        let noted = trio.state.noted_length;
+        let field = |at| number_at(&made.buffer, at, 8);
+        let refused = match answer {
+            Answer::Refused { code, .. } => *code,
+            _ => 0,
+        };
+        let done = !matches!(answer, Answer::Refused { .. });
+        match made.call {
+            Call::CardRead { device } | Call::CardWrite { device } => {
+                let write = matches!(made.call, Call::CardWrite { .. });
+                self.saw(0, done && !write && length == LONGEST);
+                self.saw(1, done && write && length == LONGEST);
+                self.saw(4, done && length == 0 && device == TOP);
+                self.saw(7, done && before.met > 1);
+                self.saw(8, done && write && before.twice);
+                if let Answer::Refused {
+                    code: 14..=16,
+                    place,
+                } = answer
+                {
+                    let first = trio.state.mappings.iter().find(|m| m.holds(device.into()));
+                    let left = first.map_or(u128::MAX, |m| m.range().end - u128::from(device));
+                    self.saw(9, u128::from(*place) >= left);
+                }
+            }
+            Call::HostStore { address } => {
+                self.saw(2, done && length == LONGEST);
+                self.saw(5, done && length == 0 && address == noted);
+            }
+            Call::HostLoad { address } => {
+                self.saw(3, done && length == LONGEST);
+                self.saw(5, done && length == 0 && address == noted);
+                if let Answer::Refused { code: 16, place } = answer {
+                    self.saw(23, trio.mark(address + place) > 1);
+                }
+            }
+            Call::Request {
+                target: 0,
+                number: 101,
+            } => {
+                self.saw(21, *answer == Answer::Done(1));
+                self.saw(22, *answer == Answer::Done(0));
+            }
+            Call::Forget { address, length } => {
+                self.saw(6, done && length == 0 && address == noted)
+            }
+            Call::Request {
+                target: 0,
+                number: 113,
+            } if length >= 32 => {
+                let (device, size) = (field(16), field(24));
+                self.saw(10, refused == 10 && before.encloses);
+                self.saw(11, refused == 9 && device.checked_add(size).is_none());
+                self.saw(12, done && device.checked_add(size) == Some(TOP));
+                self.saw(13, done && before.held == 63);
+                self.saw(14, done && before.below > 0 && before.below < before.held);
+            }
+            Call::Request {
+                target: 0,
+                number: 114,
+            } if length >= 24 => {
+                let (device, size) = (field(8), field(16));
+                let removed = before.held - trio.state.mappings.len();
+                self.saw(15, done && device == 0 && size == TOP);
+                self.saw(16, done && removed > 1);
+                self.saw(17, done && removed == 0);
+            }
+            Call::LoadParts => {
+                self.saw(18, done && length == LONGEST);
+                self.saw(19, done && trio.state.registers.len() < before.registers);
+            }
+            Call::SaveParts => self.saw(20, *answer == Answer::Done(length as u64)),
+            _ => {}
+        }
+    }
+
+    fn saw(&mut self, event: usize, happened: bool) {
+        self.counts[event] += u64::from(happened);
+    }
+
+    pub fn table(&self) -> String {
+        let mut table = String::new();
+        for (event, count) in EVENTS.iter().zip(self.counts) {
+            writeln!(table, "{event}: {count}").unwrap();
+        }
+        table
+    }
+
+    pub fn faults(&self) -> Vec<String> {
+        let missing = EVENTS.iter().zip(self.counts).filter(|(_, n)| *n == 0);
+        missing.map(|(event, _)| format!("no {event}")).collect()
+    }
+}

@@ -1,0 +1,706 @@
+//! Makes lists of calls: each rule is tried at its edges, mostly with all else in order.
+
+use glint_boundary::{Mapping, Register, State, CAPACITY};
+use glint_reference::bench::PAGE;
+
+use crate::call::{Call, Made, Step};
+use crate::damage::{self, Damages};
+use crate::meaning::SLOTS;
+use crate::random::Random;
+use crate::streams;
+use crate::trio::{garble, Trio};
+
+const TOP: u64 = 1 << 48;
+/// The longest move and stream.
+const LONGEST: usize = 65_536;
+/// Bytes behind the noted length that may be lent as well.
+const BEYOND: usize = 64;
+
+pub struct Generator {
+    pub random: Random,
+    /// The memory's length at the list's first fresh start.
+    length: usize,
+    steps: usize,
+    /// What comes next, whatever else would.
+    pending: Option<Step>,
+    pub damages: Damages,
+}
+
+impl Generator {
+    pub fn new(seed: u64) -> Generator {
+        let mut random = Random::new(seed);
+        let length = match random.below(40) {
+            0 => random.pick(&[0, 1, 4095]),
+            1..=3 => 17 * 4096,
+            4..=8 => random.pick(&[4096, 4097, 8191, 8193]),
+            9..=30 => 8192,
+            _ => random.pick(&[12288, 16384, 20480]),
+        };
+        Generator {
+            random,
+            length,
+            steps: 0,
+            pending: None,
+            damages: Damages::default(),
+        }
+    }
+
+    /// How much memory the list needs.
+    pub fn capacity(&self) -> usize {
+        self.length + BEYOND
+    }
+
+    /// The next step, for programs that stand like this.
+    pub fn next(&mut self, trio: &Trio) -> Step {
+        self.steps += 1;
+        if let Some(step) = self.pending.take() {
+            return step;
+        }
+        match self.steps {
+            1 => return self.lend(Call::FreshStart, Vec::new(), (self.length, self.length)),
+            2 if self.random.below(3) > 0 => return self.install(trio),
+            3 if self.random.below(2) > 0 => return self.store_all(trio),
+            _ => {}
+        }
+        match self.random.below(1000) {
+            0..=14 => self.scribble(trio),
+            15..=21 => self.unmark(trio),
+            22..=33 => self.install(trio),
+            34..=37 => self.store_all(trio),
+            38..=57 if trio.capacity() > LONGEST => {
+                // Behind a store, so that a read finds all written.
+                let (call, buffer) = self.long_move(trio);
+                self.pending = Some(self.made(trio, call, buffer));
+                self.store_all(trio)
+            }
+            _ => {
+                let (call, buffer) = self.call(trio);
+                self.made(trio, call, buffer)
+            }
+        }
+    }
+
+    fn lend(&mut self, call: Call, buffer: Vec<u8>, lent: (usize, usize)) -> Step {
+        Step::Make(Box::new(Made {
+            call,
+            buffer,
+            lent,
+            given: None,
+        }))
+    }
+
+    /// The call, mostly on the kept state with memory and marks of the noted length.
+    fn made(&mut self, trio: &Trio, call: Call, buffer: Vec<u8>) -> Step {
+        let noted = (trio.state.noted_length as usize).min(trio.capacity());
+        let mut made = Made {
+            call,
+            buffer,
+            lent: (noted, noted),
+            given: None,
+        };
+        if self.random.one_in(40) || (call == Call::FreshStart && self.random.one_in(2)) {
+            made.lent = self.wrong_lengths(noted, trio.capacity());
+        }
+        match self.random.below(100) {
+            0..=6 => {
+                let (damage, state) = damage::damaged(trio.kept(), &mut self.random);
+                self.damages.count(damage);
+                made.given = Some(state);
+            }
+            7..=8 => made.given = Some(self.another_state(trio)),
+            _ => {}
+        }
+        Step::Make(Box::new(made))
+    }
+
+    fn wrong_lengths(&mut self, noted: usize, capacity: usize) -> (usize, usize) {
+        let near = |random: &mut Random| match random.below(4) {
+            0 => noted.saturating_sub(1),
+            1 => (noted + 1).min(capacity),
+            2 => random.below(capacity as u64 + 1) as usize,
+            _ => 0,
+        };
+        let one = near(&mut self.random);
+        match self.random.below(4) {
+            0 => (one, noted),
+            1 => (noted, one),
+            2 => (one, one),
+            _ => (one, near(&mut self.random)),
+        }
+    }
+
+    // ---- steps that are no calls
+
+    fn scribble(&mut self, trio: &Trio) -> Step {
+        let from = self.random.below(trio.capacity() as u64) as usize;
+        Step::Scribble {
+            from,
+            length: self.random.pick(&[1, 16, 4096, 8192]),
+            seed: self.random.number(),
+        }
+    }
+
+    fn unmark(&mut self, trio: &Trio) -> Step {
+        let from = self.address(trio).min(trio.capacity() as u64 - 1) as usize;
+        Step::Unmark {
+            from,
+            length: self.random.pick(&[1, 2, 16, 4096]),
+            mark: self.random.pick(&[0, 2, 3, 129, 254, 255]),
+        }
+    }
+
+    /// A state that a caller might have kept: sound, with garbage where nothing is meant.
+    fn install(&mut self, trio: &Trio) -> Step {
+        Step::Install(Box::new(self.sound_state(trio)))
+    }
+
+    fn another_state(&mut self, trio: &Trio) -> State {
+        if self.random.one_in(2) {
+            return self.sound_state(trio);
+        }
+        let mut state = *trio.kept();
+        garble(&mut state, &mut self.random);
+        state
+    }
+
+    fn sound_state(&mut self, trio: &Trio) -> State {
+        let random = &mut self.random;
+        let mut state = State {
+            memory_length: trio.state.noted_length.min(trio.capacity() as u64),
+            running: random.one_in(8),
+            ..State::default()
+        };
+        let pages = state.memory_length / PAGE;
+        let count = if pages == 0 {
+            0
+        } else {
+            random.pick(&[0, 1, 1, 2, 2, 3, 5, 16, 17, 63, 64, 64])
+        };
+        let gap = random.pick(&[0, 0, 0, 1, 1, 3]) * PAGE;
+        let large = pages > 16;
+        let count = if large && random.one_in(2) { 1 } else { count };
+        let size = match count {
+            1 if large => random.pick(&[16, 17]) * PAGE,
+            0..=5 => random.from(1, pages.clamp(1, 3)) * PAGE,
+            _ => PAGE,
+        };
+        let total = count * (size + gap);
+        let low = random.pick(&[0, 0, 0x10_0000, 1 << 40, TOP - total]);
+        for (i, m) in state.table.entries[..count as usize].iter_mut().enumerate() {
+            let place = random.below(pages - size / PAGE + 1);
+            *m = Mapping {
+                device: low + i as u64 * (size + gap),
+                memory: if large { i as u64 % pages } else { place } * PAGE,
+                size,
+                rights: random.pick(&[3, 3, 3, 3, 3, 3, 1, 2]),
+            };
+            if m.memory + m.size > state.memory_length {
+                m.memory = 0;
+            }
+        }
+        state.table.count = count as usize;
+        let all = random.one_in(4);
+        for ((kind, _, length), register) in SLOTS.iter().zip(&mut state.registers.slots) {
+            if all || *kind == 0x103 || random.one_in(3) {
+                let value = streams::good_value(*kind, *length, random);
+                let mut bytes = [0; 32];
+                bytes[..*length].copy_from_slice(&value);
+                *register = Register { set: true, bytes };
+            }
+        }
+        garble(&mut state, random);
+        state
+    }
+
+    /// Makes much of memory written.
+    fn store_all(&mut self, trio: &Trio) -> Step {
+        let noted = (trio.state.noted_length as usize).min(trio.capacity());
+        let bytes = self.random.bytes(noted.min(LONGEST));
+        self.lend(Call::HostStore { address: 0 }, bytes, (noted, noted))
+    }
+
+    // ---- calls
+
+    fn call(&mut self, trio: &Trio) -> (Call, Vec<u8>) {
+        match self.random.below(1000) {
+            0..=4 => (Call::FreshStart, Vec::new()),
+            5..=309 => self.request(trio),
+            310..=359 => {
+                let device = self.device(trio);
+                (Call::LookUp { device }, Vec::new())
+            }
+            360..=479 => {
+                let (device, length) = self.card_move(trio);
+                (Call::CardRead { device }, self.garbage(length))
+            }
+            480..=599 => {
+                let (device, length) = self.card_move(trio);
+                (Call::CardWrite { device }, self.random.bytes(length))
+            }
+            600..=679 => {
+                let (address, length) = self.host_move(trio);
+                (Call::HostStore { address }, self.random.bytes(length))
+            }
+            680..=759 => {
+                let (address, length) = self.host_move(trio);
+                (Call::HostLoad { address }, self.garbage(length))
+            }
+            760..=789 => {
+                let address = self.address(trio);
+                let length = self.forget_length(trio, address);
+                (Call::Forget { address, length }, Vec::new())
+            }
+            790..=849 => self.set_register(),
+            850..=889 => self.read_register(),
+            890..=939 => (Call::LoadParts, streams::stream(&mut self.random)),
+            940..=959 => (Call::SaveParts, self.save_buffer(trio)),
+            960..=974 => (Call::Stop, Vec::new()),
+            975..=979 => (Call::Start, Vec::new()),
+            _ => self.walk(),
+        }
+    }
+
+    /// What a buffer holds before a call writes to it.
+    fn garbage(&mut self, length: usize) -> Vec<u8> {
+        vec![self.random.byte(); length]
+    }
+
+    // ---- moves
+
+    /// A device address at an edge of a mapping or of the device's space, or where bytes are often
+    /// stored.
+    fn device(&mut self, trio: &Trio) -> u64 {
+        let random = &mut self.random;
+        let mappings = &trio.state.mappings;
+        if mappings.is_empty() && !random.one_in(4) {
+            return random.below(0x10_0000);
+        }
+        if mappings.is_empty() || random.one_in(12) {
+            let edge = random.pick(&[
+                0,
+                TOP,
+                TOP - 16,
+                TOP - PAGE,
+                u64::MAX,
+                u64::MAX - 15,
+                1 << 63,
+            ]);
+            return edge.wrapping_add(random.pick(&[0, 0, 1, 2, u64::MAX, 17]));
+        }
+        if random.one_in(40) {
+            return random.below(TOP + 4);
+        }
+        let m = mappings[random.below(mappings.len() as u64) as usize];
+        let (first, end) = (m.device.0, m.device.0.wrapping_add(m.size));
+        match random.below(8) {
+            0..=2 => first.wrapping_add(random.pick(&[0, 0, 1, 2, 15, 16, 64])),
+            3 => end.wrapping_sub(random.pick(&[1, 2, 16, 64])),
+            4 => first.wrapping_sub(random.pick(&[1, 2, 16])),
+            5 => end,
+            _ => {
+                let page = random.below((m.size / PAGE).max(1)) * PAGE;
+                first.wrapping_add(page + random.pick(&[0, 0, 1, 15, 16, 64, 4080, 4095]))
+            }
+        }
+    }
+
+    fn card_move(&mut self, trio: &Trio) -> (u64, usize) {
+        let device = self.device(trio);
+        let mappings = &trio.state.mappings;
+        let held = mappings.iter().find(|m| m.holds(u128::from(device)));
+        // How far it is to the end of the mapping, or of the space.
+        let left = match held {
+            Some(m) => (m.range().end - u128::from(device)) as u64,
+            None => TOP.saturating_sub(device),
+        };
+        (device, self.length_near(left, trio))
+    }
+
+    /// A move as long as one may be, where it can be accepted.
+    fn long_move(&mut self, trio: &Trio) -> (Call, Vec<u8>) {
+        let first = trio.state.mappings.first().map_or(0, |m| m.device.0);
+        let device = first + self.random.pick(&[0, 0, 1, 4095]);
+        let address = self.random.pick(&[0, 0, 1, 4096, 4097]);
+        let length = self
+            .random
+            .pick(&[LONGEST, LONGEST, LONGEST - 1, LONGEST + 1]);
+        let call = match self.random.below(4) {
+            0 => Call::CardRead { device },
+            1 => Call::CardWrite { device },
+            2 => Call::HostStore { address },
+            _ => Call::HostLoad { address },
+        };
+        let byte = self.random.byte();
+        let mut buffer = vec![byte; length];
+        if matches!(call, Call::CardWrite { .. } | Call::HostStore { .. }) {
+            self.random.fill(&mut buffer);
+        }
+        (call, buffer)
+    }
+
+    fn length_near(&mut self, left: u64, trio: &Trio) -> usize {
+        let large = trio.capacity() > LONGEST;
+        let random = &mut self.random;
+        let length = match random.below(100) {
+            0..=5 => 0,
+            6..=50 => random.from(1, 16),
+            51..=65 => random.from(1, 80),
+            66..=85 if left < 3 * PAGE => left.saturating_add(random.pick(&[0, 0, 0, 1, 2, 16])),
+            86..=88 if left > 0 && left < 3 * PAGE => left - 1,
+            89..=91 => random.pick(&[PAGE - 1, PAGE, PAGE + 1, PAGE + 64, 2 * PAGE]),
+            92 if large => random.pick(&[LONGEST as u64, LONGEST as u64 - 1, 40_000]),
+            93 => random.pick(&[65_537, 65_538, 70_000]),
+            94 if random.one_in(4) => LONGEST as u64,
+            _ => random.from(1, 32),
+        };
+        length as usize
+    }
+
+    /// A memory address near the end of memory, or where bytes are often stored.
+    fn address(&mut self, trio: &Trio) -> u64 {
+        let noted = trio.state.noted_length;
+        let random = &mut self.random;
+        match random.below(20) {
+            0 => noted.wrapping_add(random.pick(&[0, 0, 1, 2])),
+            1..=2 => noted.saturating_sub(random.pick(&[1, 2, 15, 16, 17, 64])),
+            3 => random.pick(&[u64::MAX, u64::MAX - 15, 1 << 63, 1 << 32, TOP]),
+            4 => random.below(noted + 1),
+            _ => {
+                let page = random.below((noted / PAGE).max(1)) * PAGE;
+                page + random.pick(&[0, 0, 0, 1, 2, 15, 16, 17, 64, 4080, 4095])
+            }
+        }
+    }
+
+    fn host_move(&mut self, trio: &Trio) -> (u64, usize) {
+        let address = self.address(trio);
+        let left = trio.state.noted_length.saturating_sub(address);
+        (address, self.length_near(left, trio))
+    }
+
+    fn forget_length(&mut self, trio: &Trio, address: u64) -> u64 {
+        let left = trio.state.noted_length.saturating_sub(address);
+        let random = &mut self.random;
+        match random.below(10) {
+            0 => random.pick(&[u64::MAX, 0u64.wrapping_sub(address), 1 << 63, 1 << 32]),
+            1 => left,
+            2 => left.wrapping_add(1),
+            3 => 0,
+            4 => left.wrapping_sub(1),
+            _ => random.from(1, 32),
+        }
+    }
+
+    // ---- requests
+
+    fn request(&mut self, trio: &Trio) -> (Call, Vec<u8>) {
+        let (target, number, size) = match self.random.below(100) {
+            0..=39 => (0, 113, 32),
+            40..=59 => (0, 114, 24),
+            60..=62 => (0, 100, 0),
+            63..=67 => (0, 101, 4),
+            68..=71 => (0, 112, 16),
+            72..=75 => (1, 107, 16),
+            76..=82 => (1, 108, 32),
+            83..=89 => (1, 109, 16),
+            90..=91 => (1, 111, 0),
+            _ => {
+                let target = self.random.pick(&[0, 1, 2, u32::MAX]);
+                (target, self.random.from(99, 118) as u32, 32)
+            }
+        };
+        let length = match self.random.below(20) {
+            0 => self.random.below(size + 1),
+            1 => size.saturating_sub(1),
+            2..=5 => size + self.random.pick(&[1, 4, 8, 32]),
+            _ => size,
+        };
+        let mut buffer = self.random.bytes(length as usize);
+        let argsz = match self.random.below(20) {
+            0 => self
+                .random
+                .pick(&[0, size.wrapping_sub(1), 1, 1 << 31, u64::MAX]),
+            1 => length + 1,
+            2..=5 => length,
+            6..=7 => self.random.from(size.min(length), length),
+            _ => size,
+        };
+        put(&mut buffer, 0, 4, argsz);
+        match (target, number) {
+            (0, 101) => {
+                let extension = self.random.pick(&[3, 3, 1, 0, 2, 4, 0x103, 0x0300_0003]);
+                put(&mut buffer, 0, 4, extension);
+            }
+            (0, 113) => self.map_fields(trio, &mut buffer),
+            (0, 114) => self.unmap_fields(trio, &mut buffer),
+            (1, 108 | 109) => {
+                let last = if number == 108 { 8 } else { 3 };
+                let index = match self.random.below(5) {
+                    0 => self
+                        .random
+                        .pick(&[last + 1, 0x107, 0x1_0000, 0x0100_0000, 0xffff_ffff]),
+                    1 => last,
+                    _ => self.random.from(0, last),
+                };
+                put(&mut buffer, 8, 4, index);
+            }
+            _ => {}
+        }
+        (Call::Request { target, number }, buffer)
+    }
+
+    /// argsz, flags, memory address, device address, size.
+    fn map_fields(&mut self, trio: &Trio, buffer: &mut [u8]) {
+        let noted = trio.state.noted_length;
+        let random = &mut self.random;
+        let pages = (noted / PAGE).max(1);
+        let mut size = random.from(1, pages.min(3)) * PAGE;
+        let mut memory = random.below(pages) * PAGE;
+        if memory.saturating_add(size) > noted && !random.one_in(8) {
+            (memory, size) = (0, PAGE);
+        }
+        let mut flags = random.pick(&[3, 3, 3, 3, 1, 2]);
+        let mut device = self.free_device(trio, size);
+        let random = &mut self.random;
+        // Mostly one thing is wrong or nothing; sometimes several are, and the order decides.
+        for _ in 0..random.pick(&[0, 0, 0, 0, 0, 1, 1, 1, 2, 3]) {
+            match random.below(10) {
+                0 => flags = random.pick(&[0, 4, 5, 7, 8, 0x101, 0x8000_0003, 0xffff_ffff]),
+                1 => size = 0,
+                2 => size = size.wrapping_add(random.pick(&[1, u64::MAX, 2048])),
+                3 => memory = memory.wrapping_add(random.pick(&[1, u64::MAX, 2048])),
+                4 => device = device.wrapping_add(random.pick(&[1, u64::MAX, 2048])),
+                5 => size = random.pick(&[0u64.wrapping_sub(PAGE), 1 << 63, TOP, TOP - PAGE]),
+                6 => memory = random.pick(&[0u64.wrapping_sub(PAGE), noted / PAGE * PAGE, 1 << 63]),
+                7 => device = random.pick(&[0u64.wrapping_sub(PAGE), TOP, TOP - PAGE, 1 << 63]),
+                8 => memory = (noted / PAGE * PAGE).saturating_sub(size),
+                _ => device = TOP.wrapping_sub(size).wrapping_add(random.pick(&[0, PAGE])),
+            }
+        }
+        put(buffer, 4, 4, flags);
+        put(buffer, 8, 8, memory);
+        put(buffer, 16, 8, device);
+        put(buffer, 24, 8, size);
+    }
+
+    /// A device address beside a mapping, in one, around one, or anywhere.
+    fn free_device(&mut self, trio: &Trio, size: u64) -> u64 {
+        let mappings = &trio.state.mappings;
+        let random = &mut self.random;
+        if mappings.is_empty() || random.one_in(8) {
+            return random.pick(&[0, PAGE, 0x10_0000, 1 << 40, TOP - PAGE, TOP - size]);
+        }
+        let m = mappings[random.below(mappings.len() as u64) as usize];
+        let (first, end) = (m.device.0, m.device.0.wrapping_add(m.size));
+        match random.below(8) {
+            0..=2 => end,
+            3 => first.wrapping_sub(size),
+            4 => end.wrapping_add(PAGE),
+            5 => first,
+            6 => first.wrapping_sub(PAGE),
+            _ => end.wrapping_sub(PAGE),
+        }
+    }
+
+    /// argsz, flags, device address, size.
+    fn unmap_fields(&mut self, trio: &Trio, buffer: &mut [u8]) {
+        let mappings = &trio.state.mappings;
+        let random = &mut self.random;
+        let (mut device, mut size) = (random.pick(&[0, PAGE, 1 << 40, TOP - PAGE]), PAGE);
+        if !mappings.is_empty() {
+            let i = random.below(mappings.len() as u64) as usize;
+            let m = mappings[i];
+            // To the end of the same mapping, or of one of the next ones.
+            let last = mappings[(i + random.pick(&[0, 0, 0, 1, 2, 63])).min(mappings.len() - 1)];
+            device = m.device.0;
+            size = (last.range().end as u64).wrapping_sub(device);
+        }
+        let mut flags = 0;
+        for _ in 0..random.pick(&[0, 0, 0, 0, 1, 1, 1, 2, 3]) {
+            match random.below(16) {
+                0 => flags = random.pick(&[1, 2, 3, 0x8000_0000, 256]),
+                1 => size = 0,
+                2 => size = size.wrapping_add(random.pick(&[1, u64::MAX])),
+                3 => device = device.wrapping_add(random.pick(&[1, u64::MAX])),
+                4..=5 => size = size.wrapping_add(PAGE),
+                6..=7 => size = size.wrapping_sub(PAGE),
+                11..=12 => device = device.wrapping_add(PAGE),
+                13 => device = device.wrapping_sub(PAGE),
+                8 => size = random.pick(&[0u64.wrapping_sub(PAGE), TOP, TOP + PAGE, 1 << 63]),
+                9 => device = random.pick(&[0, 0u64.wrapping_sub(PAGE), TOP, TOP - PAGE]),
+                10 if random.one_in(2) => (device, size) = (0, TOP),
+                _ => {}
+            }
+        }
+        put(buffer, 4, 4, flags);
+        put(buffer, 8, 8, device);
+        put(buffer, 16, 8, size);
+    }
+
+    // ---- registers and parts
+
+    /// Mostly a register that there is; else a number beside one.
+    fn register(&mut self) -> (u64, u64, usize) {
+        let random = &mut self.random;
+        let (mut kind, mut selector, length) = match random.below(16) {
+            14 => (0x100, 0, 8),
+            15 => random.pick(&SLOTS),
+            slot => SLOTS[slot as usize],
+        };
+        match random.below(12) {
+            0 => {
+                kind = random.pick(&[
+                    0,
+                    0xff,
+                    0x106,
+                    0x600,
+                    0x1_0103,
+                    0x1_0000_0103,
+                    u64::MAX,
+                    0x100,
+                    3,
+                ])
+            }
+            1..=2 => {
+                selector = random.pick(&[
+                    1,
+                    2,
+                    4,
+                    6,
+                    8,
+                    12,
+                    18,
+                    20,
+                    22,
+                    23,
+                    256,
+                    0x1_0000,
+                    0x1_0001,
+                    1 << 32,
+                    (1 << 32) + 8,
+                    u64::MAX,
+                ])
+            }
+            _ => {}
+        }
+        (kind, selector, length)
+    }
+
+    fn set_register(&mut self) -> (Call, Vec<u8>) {
+        let (kind, selector, length) = self.register();
+        let value = streams::value(kind, length, &mut self.random);
+        (Call::SetRegister { kind, selector }, value)
+    }
+
+    fn read_register(&mut self) -> (Call, Vec<u8>) {
+        let (kind, selector, length) = self.register();
+        let room = match self.random.below(6) {
+            0 => length.saturating_sub(1),
+            1 => 0,
+            2..=3 => length,
+            _ => 40,
+        };
+        (Call::ReadRegister { kind, selector }, self.garbage(room))
+    }
+
+    fn save_buffer(&mut self, trio: &Trio) -> Vec<u8> {
+        let values: usize = trio.state.registers.values().map(|v| 16 + v.len()).sum();
+        let exact = 24 + values;
+        let room = match self.random.below(6) {
+            0 => exact - 1,
+            1..=2 => exact,
+            3 => exact + 1,
+            4 => self.random.below(500) as usize,
+            _ => 500,
+        };
+        self.garbage(room)
+    }
+
+    fn walk(&mut self) -> (Call, Vec<u8>) {
+        let stream = streams::stream(&mut self.random);
+        let length = stream.len() as u64;
+        // A step's place is where a part begins, mostly.
+        let mut place = 0;
+        for _ in 0..self.random.below(5) {
+            let left = &stream[place.min(stream.len())..];
+            if left.len() < 16 {
+                break;
+            }
+            let value = u32::from_le_bytes([left[12], left[13], left[14], left[15]]);
+            place = place.saturating_add(16 + value as usize);
+        }
+        let place = match self.random.below(12) {
+            0 => length,
+            1 => length + 1,
+            2 => self.random.below(length + 2),
+            3 => self.random.pick(&[u64::MAX, u64::MAX - 15, 1 << 63]),
+            4 => length.saturating_sub(self.random.from(1, 17)),
+            _ => place as u64,
+        };
+        (Call::Walk { place }, stream)
+    }
+}
+
+/// Puts a field where the buffer reaches.
+fn put(buffer: &mut [u8], at: usize, width: usize, number: u64) {
+    let bytes = number.to_le_bytes();
+    for (i, byte) in bytes[..width].iter().enumerate() {
+        if let Some(place) = buffer.get_mut(at + i) {
+            *place = *byte;
+        }
+    }
+}
+
+const _: () = assert!(CAPACITY == 64);
+
+#[cfg(test)]
+mod tests {
+    use super::*;
+    use crate::meaning::meaning;
+    use crate::trio::faithful;
+
+    /// A trio on two pages after a fresh start.
+    fn started() -> (Generator, Trio) {
+        let mut generator = Generator::new(1);
+        generator.length = 8192;
+        let mut trio = Trio::new(generator.capacity(), 1, faithful);
+        let step = generator.next(&trio);
+        assert!(trio.step(&step).is_ok());
+        (generator, trio)
+    }
+
+    #[test]
+    fn states_made_to_be_sound_are_sound() {
+        let (mut generator, trio) = started();
+        for _ in 0..2000 {
+            assert!(meaning(&generator.sound_state(&trio)).sound());
+        }
+    }
+
+    #[test]
+    fn every_damage_makes_a_sound_state_unsound() {
+        let (mut generator, trio) = started();
+        for _ in 0..5000 {
+            let sound = generator.sound_state(&trio);
+            let (cause, state) = damage::damaged(&sound, &mut generator.random);
+            assert!(!meaning(&state).sound(), "{}", damage::CAUSES[cause]);
+        }
+    }
+
+    #[test]
+    fn a_seed_makes_one_list() {
+        let list = |seed| {
+            let mut generator = Generator::new(seed);
+            let mut trio = Trio::new(generator.capacity(), seed, faithful);
+            let mut shown = Vec::new();
+            for _ in 0..100 {
+                let step = generator.next(&trio);
+                trio.step(&step).unwrap();
+                shown.push(step.to_string());
+            }
+            shown
+        };
+        assert_eq!(list(7), list(7));
+        assert_ne!(list(7), list(8));
+    }
+}

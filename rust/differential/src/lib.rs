@@ -1,0 +1,17 @@
+//! Generated lists of calls, made on the emulator, on a twin of it with other garbage, and on the
+//! second program, and compared after every call.
+
+#![forbid(unsafe_code)]
+
+pub mod call;
+pub mod damage;
+pub mod events;
+pub mod generate;
+pub mod meaning;
+pub mod pairs;
+pub mod programs;
+pub mod random;
+pub mod run;
+pub mod shorten;
+pub mod streams;
+pub mod trio;

@@ -1,0 +1,151 @@
+//! Which answers document 01 allows each call, as data from the paper. Every pair must occur, and
+//! no other may.
+
+use std::fmt::Write;
+
+use crate::call::{Answer, Call};
+
+/// An accepted call; for the walker, a part.
+const DONE: usize = 0;
+/// The walker's end. Between the two stand the refusals by their numbers.
+const END: usize = 28;
+
+const ANSWERS: usize = 29;
+
+/// A call and its answers; after "1", in the paper's order of checks.
+type Row = (&'static str, &'static [usize]);
+
+#[rustfmt::skip]
+pub const ROWS: [Row; 24] = [
+    ("fresh start",           &[DONE, 1]),
+    ("request not listed",    &[1, 2]),
+    ("container 100",         &[DONE, 1]),
+    ("container 101",         &[DONE, 1, 3]),
+    ("container 112",         &[DONE, 1, 3, 4]),
+    ("container 113 map",     &[DONE, 1, 3, 4, 5, 8, 7, 9, 10, 11]),
+    ("container 114 unmap",   &[DONE, 1, 3, 4, 5, 8, 7, 9, 12]),
+    ("device 107",            &[DONE, 1, 3, 4]),
+    ("device 108",            &[DONE, 1, 3, 4, 6]),
+    ("device 109",            &[DONE, 1, 3, 4, 6]),
+    ("device 111 reset",      &[DONE, 1]),
+    ("look-up",               &[DONE, 1, 9, 14]),
+    ("card read",             &[DONE, 1, 13, 9, 14, 15, 16]),
+    ("card write",            &[DONE, 1, 13, 9, 14, 15]),
+    ("host store",            &[DONE, 1, 13, 9]),
+    ("host load",             &[DONE, 1, 13, 9, 16]),
+    ("forget",                &[DONE, 1, 9]),
+    ("set register",          &[DONE, 1, 20, 26, 19, 6, 22, 23]),
+    ("read register",         &[DONE, 1, 20, 19, 6, 25, 27]),
+    ("load parts",            &[DONE, 1, 17, 13, 18, 19, 20, 6, 22, 21, 23, 24]),
+    ("save parts",            &[DONE, 1, 17, 27]),
+    ("stop",                  &[DONE, 1]),
+    ("start",                 &[DONE, 1]),
+    ("walker step",           &[DONE, END, 18, 19]),
+];
+
+/// Counts each pair of a call and an answer.
+pub struct Pairs {
+    counts: [[u64; ANSWERS]; ROWS.len()],
+}
+
+fn row_of(call: &Call) -> usize {
+    let name = match *call {
+        Call::FreshStart => "fresh start",
+        Call::Request {
+            target: 0, number, ..
+        } => match number {
+            100 => "container 100",
+            101 => "container 101",
+            112 => "container 112",
+            113 => "container 113 map",
+            114 => "container 114 unmap",
+            _ => "request not listed",
+        },
+        Call::Request {
+            target: 1, number, ..
+        } => match number {
+            107 => "device 107",
+            108 => "device 108",
+            109 => "device 109",
+            111 => "device 111 reset",
+            _ => "request not listed",
+        },
+        Call::Request { .. } => "request not listed",
+        Call::LookUp { .. } => "look-up",
+        Call::CardRead { .. } => "card read",
+        Call::CardWrite { .. } => "card write",
+        Call::HostStore { .. } => "host store",
+        Call::HostLoad { .. } => "host load",
+        Call::Forget { .. } => "forget",
+        Call::SetRegister { .. } => "set register",
+        Call::ReadRegister { .. } => "read register",
+        Call::LoadParts => "load parts",
+        Call::SaveParts => "save parts",
+        Call::Stop => "stop",
+        Call::Start => "start",
+        Call::Walk { .. } => "walker step",
+    };
+    ROWS.iter().position(|row| row.0 == name).expect("a row")
+}
+
+fn shown(answer: usize) -> String {
+    match answer {
+        DONE => "done".to_string(),
+        END => "end".to_string(),
+        refusal => refusal.to_string(),
+    }
+}
+
+impl Default for Pairs {
+    fn default() -> Pairs {
+        Pairs {
+            counts: [[0; ANSWERS]; ROWS.len()],
+        }
+    }
+}
+
+impl Pairs {
+    pub fn count(&mut self, call: &Call, answer: &Answer) {
+        let column = match *answer {
+            Answer::Done(_) | Answer::Found { .. } | Answer::Part { .. } => DONE,
+            Answer::End => END,
+            Answer::Refused { code, .. } => code as usize,
+        };
+        self.counts[row_of(call)][column.min(ANSWERS - 1)] += 1;
+    }
+
+    /// A line a call: each allowed answer and how often it came.
+    pub fn table(&self) -> String {
+        let mut table = String::new();
+        for (row, (name, allowed)) in ROWS.iter().enumerate() {
+            write!(table, "{name:<22}").unwrap();
+            for answer in *allowed {
+                let name = shown(*answer);
+                write!(table, " {name}: {}", self.counts[row][*answer]).unwrap();
+            }
+            table.push('\n');
+        }
+        table
+    }
+
+    pub fn allowed(&self) -> usize {
+        ROWS.iter().map(|row| row.1.len()).sum()
+    }
+
+    /// The pairs that are allowed and did not occur, and those that occurred and are not allowed.
+    pub fn faults(&self) -> Vec<String> {
+        let mut faults = Vec::new();
+        for (row, (name, allowed)) in ROWS.iter().enumerate() {
+            for answer in 0..ANSWERS {
+                let count = self.counts[row][answer];
+                let answer_name = shown(answer);
+                match (allowed.contains(&answer), count) {
+                    (true, 0) => faults.push(format!("{name} never gave {answer_name}")),
+                    (false, 1..) => faults.push(format!("{name} gave {answer_name}")),
+                    _ => {}
+                }
+            }
+        }
+        faults
+    }
+}

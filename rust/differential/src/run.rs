@@ -1,0 +1,87 @@
+//! Lists one after the other, until there were enough of them or one shows a difference.
+
+use crate::call::Step;
+use crate::damage::Damages;
+use crate::events::Events;
+use crate::generate::Generator;
+use crate::pairs::Pairs;
+use crate::shorten::{first_difference, shorten};
+use crate::trio::{Fault, Tamper, Trio};
+
+/// Steps of a list.
+const STEPS: usize = 250;
+
+/// What was covered.
+#[derive(Default)]
+pub struct Coverage {
+    pub calls: u64,
+    pub pairs: Pairs,
+    pub damages: Damages,
+    pub events: Events,
+}
+
+/// A list at whose last step the programs differ.
+pub struct Difference {
+    pub seed: u64,
+    pub capacity: usize,
+    pub step: usize,
+    pub fault: Fault,
+    steps: Vec<Step>,
+    tamper: Tamper,
+}
+
+/// Makes the list of a seed.
+pub fn run_list(seed: u64, tamper: Tamper, coverage: &mut Coverage) -> Result<(), Difference> {
+    let mut generator = Generator::new(seed);
+    let capacity = generator.capacity();
+    let mut trio = Trio::new(capacity, seed, tamper);
+    let mut steps = Vec::with_capacity(STEPS);
+    for _ in 0..STEPS {
+        let step = generator.next(&trio);
+        let seen = Events::before(&step, &trio);
+        let outcome = trio.step(&step);
+        match (&step, outcome) {
+            (Step::Make(made), Ok(Some(answer))) => {
+                coverage.calls += 1;
+                coverage.pairs.count(&made.call, &answer);
+                coverage.events.count(seen, made, &answer, &trio);
+            }
+            (_, Ok(_)) => {}
+            (_, Err(fault)) => {
+                steps.push(step);
+                return Err(Difference {
+                    seed,
+                    capacity,
+                    step: steps.len(),
+                    fault,
+                    steps,
+                    tamper,
+                });
+            }
+        }
+        steps.push(step);
+    }
+    coverage.damages.add(&generator.damages);
+    Ok(())
+}
+
+impl Difference {
+    pub fn shortened(&self) -> Vec<Step> {
+        shorten(self.steps.clone(), self.capacity, self.seed, self.tamper)
+    }
+
+    /// The seed, the step, what differs, and a shortened list.
+    pub fn report(&self) -> String {
+        let (seed, step, fault) = (self.seed, self.step, &self.fault);
+        let short = self.shortened();
+        let mut report = format!("seed {seed:#x}, step {step}: {fault}\n");
+        report += &format!("{} of its steps show a difference:\n", short.len());
+        for step in &short {
+            report += &format!("  {step}\n");
+        }
+        if let Some((_, fault)) = first_difference(&short, self.capacity, seed, self.tamper) {
+            report += &format!("  => {fault}\n");
+        }
+        report
+    }
+}

@@ -1,0 +1,63 @@
+//! That a wrong emulator would be found: answers are changed on their way, and the program must
+//! notice and shorten the list.
+
+use glint_differential::call::{Answer, Call};
+use glint_differential::run::{run_list, Coverage, Difference};
+use glint_differential::trio::{faithful, Tamper};
+
+fn first_difference(tamper: Tamper) -> Difference {
+    let mut coverage = Coverage::default();
+    (1..200)
+        .find_map(|seed| run_list(seed, tamper, &mut coverage).err())
+        .expect("the change is found")
+}
+
+#[test]
+fn the_emulator_and_the_second_program_agree() {
+    let mut coverage = Coverage::default();
+    for seed in 0x1000..0x1040 {
+        if let Err(difference) = run_list(seed, faithful, &mut coverage) {
+            panic!("{}", difference.report());
+        }
+    }
+}
+
+#[test]
+fn a_wrong_place_is_found_and_the_list_is_short() {
+    let difference = first_difference(|_, answer| match answer {
+        Answer::Refused { code: 16, place } if place > 0 => Answer::Refused {
+            code: 16,
+            place: place - 1,
+        },
+        other => other,
+    });
+    let short = difference.shortened();
+    assert!(short.len() <= 6, "{}", difference.report());
+    let report = difference.report();
+    assert!(report.contains("seed 0x"), "{report}");
+}
+
+#[test]
+fn a_refusal_that_comes_too_late_is_found() {
+    // 7 in place of 8: the order of two checks.
+    let difference = first_difference(|call, answer| match (call, answer) {
+        (
+            Call::Request {
+                target: 0,
+                number: 113,
+            },
+            Answer::Refused { code: 8, place },
+        ) => Answer::Refused { code: 7, place },
+        (_, other) => other,
+    });
+    assert!(difference.shortened().len() <= 3, "{}", difference.report());
+}
+
+#[test]
+fn a_wrong_result_is_found() {
+    let difference = first_difference(|call, answer| match (call, answer) {
+        (Call::SaveParts, Answer::Done(length)) => Answer::Done(length + 1),
+        (_, other) => other,
+    });
+    assert!(difference.shortened().len() <= 3, "{}", difference.report());
+}
