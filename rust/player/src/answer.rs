@@ -1,0 +1,118 @@
+//! What a call answered, and how it is printed.
+
+use glintbasket::{Error, Location};
+use std::fmt;
+
+/// What a call answered.
+#[derive(Clone, Debug, PartialEq)]
+pub enum Answer {
+    Done(u64),
+    /// Success of a call that writes to its buffer.
+    Filled(u64, Vec<u8>),
+    Found(Location),
+    Part {
+        kind: u16,
+        flags: u8,
+        selector: u64,
+        next: usize,
+        value: Vec<u8>,
+    },
+    End,
+    Refused(Error),
+}
+
+impl fmt::Display for Answer {
+    fn fmt(&self, f: &mut fmt::Formatter<'_>) -> fmt::Result {
+        match self {
+            Answer::Done(result) => write!(f, "ok {result}"),
+            Answer::Filled(result, bytes) => write!(f, "ok {result} : {}", Pairs(bytes)),
+            Answer::Found(location) => {
+                let (address, rights) = (location.address.0, location.rights.0);
+                write!(f, "ok {address} rights {rights}")
+            }
+            Answer::Part {
+                kind,
+                flags,
+                selector,
+                next,
+                value,
+            } => {
+                write!(f, "part {kind:#x} flags {flags} selector {selector} ")?;
+                write!(f, "next {next} : {}", Pairs(value))
+            }
+            Answer::End => write!(f, "end"),
+            Answer::Refused(error) => {
+                let (refusal, place) = (error.refusal, error.place);
+                write!(
+                    f,
+                    "refused {} {} at {place}",
+                    refusal.number(),
+                    refusal.name()
+                )
+            }
+        }
+    }
+}
+
+/// Bytes as pairs of hexadecimal digits with a space between them, and `-` where there are none.
+struct Pairs<'b>(&'b [u8]);
+
+impl fmt::Display for Pairs<'_> {
+    fn fmt(&self, f: &mut fmt::Formatter<'_>) -> fmt::Result {
+        let Some((first, rest)) = self.0.split_first() else {
+            return write!(f, "-");
+        };
+        write!(f, "{first:02x}")?;
+        rest.iter().try_for_each(|byte| write!(f, " {byte:02x}"))
+    }
+}
+
+#[cfg(test)]
+mod tests {
+    use super::*;
+    use glintbasket::{MemoryAddress, Refusal, Rights};
+
+    #[test]
+    fn successes_are_printed() {
+        assert_eq!(Answer::Done(0).to_string(), "ok 0");
+        assert_eq!(
+            Answer::Done(u64::MAX).to_string(),
+            "ok 18446744073709551615"
+        );
+        assert_eq!(Answer::Filled(2, vec![0, 0xab]).to_string(), "ok 2 : 00 ab");
+        assert_eq!(Answer::Filled(0, vec![]).to_string(), "ok 0 : -");
+    }
+
+    #[test]
+    fn a_location_is_decimal() {
+        let location = Location {
+            address: MemoryAddress(0x1010),
+            rights: Rights(3),
+        };
+        assert_eq!(Answer::Found(location).to_string(), "ok 4112 rights 3");
+    }
+
+    #[test]
+    fn a_step_is_printed() {
+        let part = Answer::Part {
+            kind: 0x3,
+            flags: 1,
+            selector: 16,
+            next: 17,
+            value: vec![0x0f],
+        };
+        let text = "part 0x3 flags 1 selector 16 next 17 : 0f";
+        assert_eq!(part.to_string(), text);
+        assert_eq!(Answer::End.to_string(), "end");
+    }
+
+    #[test]
+    fn a_refusal_has_number_name_and_place() {
+        let error = Error {
+            refusal: Refusal::Unwritten,
+            place: 1,
+        };
+        let text = Answer::Refused(error).to_string();
+        assert_eq!(text, "refused 16 Unwritten at 1");
+    }
+}

@@ -1,0 +1,139 @@
+//! The map of memory as text.
+
+use crate::pages::{range, rights_in_words, row_around, runs, Stretch, Written};
+use crate::play::RefusedByte;
+use glintbasket::{Bench, Mapping, PAGE_SIZE};
+use std::io::{self, Write};
+
+/// Prints pages, mappings and the last refused byte.
+pub fn print(out: &mut impl Write, bench: &Bench, refused: Option<&RefusedByte>) -> io::Result<()> {
+    print_pages(out, bench)?;
+    writeln!(out)?;
+    print_mappings(out, bench.mappings())?;
+    writeln!(out)?;
+    print_refused(out, bench, refused)
+}
+
+fn print_pages(out: &mut impl Write, bench: &Bench) -> io::Result<()> {
+    let size = bench.memory().len() as u64;
+    let pages = size.div_ceil(PAGE_SIZE);
+    writeln!(
+        out,
+        "memory: {size} bytes, pages of {PAGE_SIZE} bytes: {pages}"
+    )?;
+    if pages == 0 {
+        return Ok(());
+    }
+    row(out, ["memory", "pages", "written", "mapped by"])?;
+    for run in runs(bench) {
+        let addresses = range(run.start, run.length);
+        let pages = run.pages().to_string();
+        let mapped = numbers(&run.mappings);
+        row(out, [&addresses, &pages, &written(&run), &mapped])?;
+    }
+    writeln!(out, "  (unwritten: never written, or forgotten since)")
+}
+
+fn row(out: &mut impl Write, [memory, pages, written, mapped]: [&str; 4]) -> io::Result<()> {
+    writeln!(out, "  {memory:<24}  {pages:>6}  {written:<28}  {mapped}")
+}
+
+fn written(stretch: &Stretch) -> String {
+    match stretch.written() {
+        Written::Not => "unwritten".to_string(),
+        Written::InPart => format!(
+            "in part: {} of {} bytes",
+            stretch.written_bytes, stretch.length
+        ),
+        Written::Wholly => "written".to_string(),
+    }
+}
+
+/// Mappings by their numbers from 1, as `1, 3 to 5`, or `-` for none.
+pub fn numbers(indices: &[usize]) -> String {
+    let mut ranges: Vec<(usize, usize)> = Vec::new();
+    for number in indices.iter().map(|index| index + 1) {
+        match ranges.last_mut() {
+            Some((_, last)) if *last + 1 == number => *last = number,
+            _ => ranges.push((number, number)),
+        }
+    }
+    if ranges.is_empty() {
+        return "-".to_string();
+    }
+    let told: Vec<String> = ranges.iter().map(|&range| told(range)).collect();
+    told.join(", ")
+}
+
+fn told((first, last): (usize, usize)) -> String {
+    match last - first {
+        0 => format!("{first}"),
+        1 => format!("{first}, {last}"),
+        _ => format!("{first} to {last}"),
+    }
+}
+
+fn print_mappings(out: &mut impl Write, mappings: &[Mapping]) -> io::Result<()> {
+    if mappings.is_empty() {
+        return writeln!(out, "mappings: none");
+    }
+    writeln!(out, "mappings: {}", mappings.len())?;
+    for (index, mapping) in mappings.iter().enumerate() {
+        writeln!(out, "  {:>2}  {}", index + 1, mapping_in_words(mapping))?;
+    }
+    Ok(())
+}
+
+pub fn mapping_in_words(mapping: &Mapping) -> String {
+    let device = range(mapping.device.0, mapping.size);
+    let memory = range(mapping.memory.0, mapping.size);
+    let rights = rights_in_words(mapping.rights);
+    format!("device {device} shows memory {memory}: {rights}")
+}
+
+fn print_refused(
+    out: &mut impl Write,
+    bench: &Bench,
+    refused: Option<&RefusedByte>,
+) -> io::Result<()> {
+    let Some(refused) = refused else {
+        return writeln!(out, "last refused byte: none");
+    };
+    writeln!(out, "last refused byte: {}", refused_in_words(refused))?;
+    let Some(memory) = refused.memory else {
+        return Ok(());
+    };
+    let (start, bytes) = row_around(bench, memory.0);
+    write!(out, "  memory {start:#x} at the end:")?;
+    for (offset, byte) in bytes.iter().enumerate() {
+        let text = byte.map_or("..".to_string(), |byte| format!("{byte:02x}"));
+        let here = start + offset as u64 == memory.0;
+        let (open, close) = if here { ("[", "]") } else { (" ", " ") };
+        write!(out, "{open}{text}{close}")?;
+    }
+    writeln!(out, "  (.. is unwritten)")
+}
+
+pub fn refused_in_words(refused: &RefusedByte) -> String {
+    let device = refused.device.map(|d| format!("device address {d}"));
+    let memory = match refused.memory {
+        Some(memory) => format!("memory address {memory}"),
+        None => "in no mapping".to_string(),
+    };
+    let place: Vec<String> = device.into_iter().chain([memory]).collect();
+    let (line, error) = (refused.line, refused.error);
+    format!("line {line}, {error}: {}", place.join(", "))
+}
+
+#[cfg(test)]
+mod tests {
+    use super::*;
+
+    #[test]
+    fn numbers_of_mappings_are_told_in_ranges() {
+        assert_eq!(numbers(&[]), "-");
+        assert_eq!(numbers(&[0]), "1");
+        assert_eq!(numbers(&[0, 1]), "1, 2");
+        assert_eq!(numbers(&[0, 2, 3, 4, 63]), "1, 3 to 5, 64");
+    }
+}

@@ -1,0 +1,233 @@
+//! Plays a session on a bench.
+
+use crate::answer::Answer;
+use crate::session::{output_size, Call, Pattern, Session, Step};
+use glintbasket::{Bench, DeviceAddress, Error, MemoryAddress, Parts, Refusal, Target};
+
+/// A bench's memory and marks, of which each byte starts as the session's garbage says.
+pub struct Store {
+    memory: Vec<u8>,
+    marks: Vec<u8>,
+    garbage: u8,
+}
+
+impl Store {
+    /// Fails where the machine has not as much memory as the session asks for.
+    pub fn new(size: usize, garbage: u8) -> Result<Store, String> {
+        Ok(Store {
+            memory: filled(size, garbage)?,
+            marks: filled(size, 0)?,
+            garbage,
+        })
+    }
+
+    /// A player on a fresh bench.
+    pub fn player(&mut self) -> Player<'_> {
+        let garbage = self.garbage;
+        let bench = Bench::new(&mut self.memory, &mut self.marks)
+            .expect("memory and marks of one length within the limit");
+        Player { bench, garbage }
+    }
+}
+
+fn filled(size: usize, byte: u8) -> Result<Vec<u8>, String> {
+    let mut bytes = Vec::new();
+    bytes
+        .try_reserve_exact(size)
+        .map_err(|_| format!("this machine cannot give {size} bytes of memory"))?;
+    bytes.resize(size, byte);
+    Ok(bytes)
+}
+
+/// A bench, and the byte that output buffers and stale bytes start as.
+pub struct Player<'m> {
+    bench: Bench<'m>,
+    garbage: u8,
+}
+
+/// A step as it was played.
+pub struct Played<'s> {
+    pub step: &'s Step,
+    pub answer: Answer,
+    pub refused_byte: Option<RefusedByte>,
+}
+
+impl Played<'_> {
+    /// The lines to print: the answer, and the expectation where it is not met.
+    pub fn lines(&self) -> Vec<String> {
+        let number = self.step.line;
+        let mut lines = vec![format!("{number}: {}", self.answer)];
+        if let Some(expected) = self.unmet() {
+            lines.push(format!("{number}: expected {expected}"));
+        }
+        lines
+    }
+
+    /// The expectation, if the answer does not meet it.
+    pub fn unmet(&self) -> Option<&str> {
+        let expected = self.step.expected.as_deref()?;
+        (expected != self.answer.to_string()).then_some(expected)
+    }
+}
+
+/// A byte at which a move was refused.
+#[derive(Clone, Debug, PartialEq)]
+pub struct RefusedByte {
+    pub line: usize,
+    pub error: Error,
+    /// For a move of the card.
+    pub device: Option<DeviceAddress>,
+    /// Unless no mapping held the device address.
+    pub memory: Option<MemoryAddress>,
+}
+
+impl<'m> Player<'m> {
+    /// The session's steps, each played when it is asked for.
+    pub fn play<'s>(
+        &'s mut self,
+        session: &'s Session,
+    ) -> impl Iterator<Item = Played<'s>> + use<'s, 'm> {
+        session.steps.iter().map(|step| self.step(step))
+    }
+
+    pub fn bench(&self) -> &Bench<'m> {
+        &self.bench
+    }
+
+    fn step<'s>(&mut self, step: &'s Step) -> Played<'s> {
+        let answer = self.answer(&step.call).unwrap_or_else(Answer::Refused);
+        let refused_byte = match &answer {
+            Answer::Refused(error) => self.refused_byte(step, *error),
+            _ => None,
+        };
+        Played {
+            step,
+            answer,
+            refused_byte,
+        }
+    }
+
+    fn answer(&mut self, call: &Call) -> Result<Answer, Error> {
+        let done = Answer::Done(0);
+        let bench = &mut self.bench;
+        match call {
+            Call::PowerOn => bench.power_on().map(|()| done),
+            Call::Request {
+                target,
+                number,
+                buffer,
+            } => self.request(*target, *number, buffer),
+            Call::LookUp(device) => bench.look_up(*device).map(Answer::Found),
+            Call::CardRead(device, length) => {
+                let mut buffer = vec![self.garbage; *length];
+                bench.device_read(*device, &mut buffer)?;
+                Ok(Answer::Filled(0, buffer))
+            }
+            Call::CardWrite(device, bytes) => {
+                let bytes = bytes.fill(self.garbage);
+                bench.device_write(*device, &bytes).map(|()| done)
+            }
+            Call::HostStore(memory, bytes) => {
+                let bytes = bytes.fill(self.garbage);
+                bench.host_write(*memory, &bytes).map(|()| done)
+            }
+            Call::HostLoad(memory, length) => {
+                let mut buffer = vec![self.garbage; *length];
+                bench.host_read(*memory, &mut buffer)?;
+                Ok(Answer::Filled(0, buffer))
+            }
+            Call::Forget(memory, length) => bench.invalidate(*memory, *length).map(|()| done),
+            Call::SetRegister {
+                kind,
+                selector,
+                value,
+            } => {
+                let value = value.fill(self.garbage);
+                bench.set_register(*kind, *selector, &value).map(|()| done)
+            }
+            Call::ReadRegister {
+                kind,
+                selector,
+                room,
+            } => {
+                let mut buffer = vec![self.garbage; *room];
+                let length = bench.read_register(*kind, *selector, &mut buffer)?;
+                Ok(start_of(buffer, length))
+            }
+            Call::LoadParts(stream) => {
+                let stream = stream.fill(self.garbage);
+                bench.load_parts(&stream).map(|()| done)
+            }
+            Call::SaveParts(room) => {
+                let mut buffer = vec![self.garbage; *room];
+                let length = bench.save_parts(&mut buffer)?;
+                Ok(start_of(buffer, length))
+            }
+            Call::Stop => bench.stop().map(|()| done),
+            Call::Start => bench.start().map(|()| done),
+            Call::Step(place, stream) => part_at(*place, &stream.fill(self.garbage)),
+        }
+    }
+
+    fn request(&mut self, target: u64, number: u64, buffer: &Pattern) -> Result<Answer, Error> {
+        let mut buffer = buffer.fill(self.garbage);
+        let result = self
+            .bench
+            .request(Target(unlisted(target)), unlisted(number), &mut buffer)?;
+        Ok(match output_size(target, number) {
+            Some(size) => {
+                buffer.truncate(size);
+                Answer::Filled(result, buffer)
+            }
+            None => Answer::Done(result),
+        })
+    }
+
+    /// Where a refused move met its first faulty byte.
+    fn refused_byte(&self, step: &Step, error: Error) -> Option<RefusedByte> {
+        let of_a_byte = [Refusal::Unmapped, Refusal::NoRight, Refusal::Unwritten];
+        if !of_a_byte.contains(&error.refusal) {
+            return None;
+        }
+        let (device, memory) = match step.call {
+            Call::CardRead(device, _) | Call::CardWrite(device, _) => {
+                let device = DeviceAddress(device.0 + error.place);
+                let location = self.bench.look_up(device).ok();
+                (Some(device), location.map(|l| l.address))
+            }
+            Call::HostLoad(memory, _) => (None, Some(MemoryAddress(memory.0 + error.place))),
+            _ => return None,
+        };
+        Some(RefusedByte {
+            line: step.line,
+            error,
+            device,
+            memory,
+        })
+    }
+}
+
+/// The library takes 32 bits. No greater number is listed, and neither is the one that stands for all of them here.
+fn unlisted(number: u64) -> u32 {
+    u32::try_from(number).unwrap_or(u32::MAX)
+}
+
+/// The answer of a call that filled its buffer's first `length` bytes.
+fn start_of(mut buffer: Vec<u8>, length: usize) -> Answer {
+    buffer.truncate(length);
+    Answer::Filled(length as u64, buffer)
+}
+
+fn part_at(place: u64, stream: &[u8]) -> Result<Answer, Error> {
+    let place = usize::try_from(place).expect("the library asks for 64 bits");
+    Ok(match Parts::at(stream, place).step()? {
+        Some(part) => Answer::Part {
+            kind: part.kind,
+            flags: part.flags,
+            selector: part.selector,
+            next: part.next,
+            value: part.value.to_vec(),
+        },
+        None => Answer::End,
+    })
+}

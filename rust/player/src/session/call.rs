@@ -1,0 +1,158 @@
+//! Calls: a word that names the call, and its arguments.
+
+use super::bytes::{self, Pattern, Stale, BYTES_MAX};
+use super::number::Number;
+use super::request;
+use super::words::{quoted, Words};
+use glintbasket::{DeviceAddress, MemoryAddress};
+
+/// One call, with its arguments.
+#[derive(Clone, Debug, PartialEq)]
+pub enum Call {
+    PowerOn,
+    Request {
+        target: u64,
+        number: u64,
+        buffer: Pattern,
+    },
+    LookUp(DeviceAddress),
+    CardRead(DeviceAddress, usize),
+    CardWrite(DeviceAddress, Pattern),
+    HostStore(MemoryAddress, Pattern),
+    HostLoad(MemoryAddress, usize),
+    Forget(MemoryAddress, u64),
+    SetRegister {
+        kind: u64,
+        selector: u64,
+        value: Pattern,
+    },
+    ReadRegister {
+        kind: u64,
+        selector: u64,
+        room: usize,
+    },
+    LoadParts(Pattern),
+    SaveParts(usize),
+    Stop,
+    Start,
+    Step(u64, Pattern),
+}
+
+/// The first words of calls, and their forms.
+const FORMS: [(&str, &str); 15] = [
+    ("power-on", "`power-on`"),
+    ("request", "`request TARGET NUMBER BYTES`"),
+    ("look-up", "`look-up DEVICE`"),
+    ("card-read", "`card-read DEVICE LENGTH`"),
+    ("card-write", "`card-write DEVICE BYTES`"),
+    ("host-store", "`host-store MEMORY BYTES`"),
+    ("host-load", "`host-load MEMORY LENGTH`"),
+    ("forget", "`forget MEMORY LENGTH`"),
+    ("set-register", "`set-register TYPE SELECTOR BYTES`"),
+    ("read-register", "`read-register TYPE SELECTOR ROOM`"),
+    ("load-parts", "`load-parts BYTES`"),
+    ("save-parts", "`save-parts ROOM`"),
+    ("stop", "`stop`"),
+    ("start", "`start`"),
+    ("step", "`step PLACE BYTES`"),
+];
+
+/// The call of a line; none if one of its words has a fault.
+pub fn read(words: &mut Words) -> Option<Call> {
+    let word = words.next()?;
+    let name = word.plain().unwrap_or("\"..\"");
+    let Some((name, form)) = FORMS.iter().find(|(known, _)| *known == name) else {
+        words.fault(word.column, no_such_call(name));
+        return None;
+    };
+    let call = arguments(name, words);
+    words.finish(form);
+    call
+}
+
+/// The arguments of a known call. All are read before any is required, so that each fault is noted.
+fn arguments(name: &str, words: &mut Words) -> Option<Call> {
+    match name {
+        "power-on" => Some(Call::PowerOn),
+        "request" => request::read(words),
+        "look-up" => device(words).map(Call::LookUp),
+        "card-read" => {
+            let (device, length) = (device(words), length("LENGTH", words));
+            Some(Call::CardRead(device?, length?))
+        }
+        "card-write" => {
+            let (device, bytes) = (device(words), given(words));
+            Some(Call::CardWrite(device?, bytes))
+        }
+        "host-store" => {
+            let (memory, bytes) = (memory(words), given(words));
+            Some(Call::HostStore(memory?, bytes))
+        }
+        "host-load" => {
+            let (memory, length) = (memory(words), length("LENGTH", words));
+            Some(Call::HostLoad(memory?, length?))
+        }
+        "forget" => {
+            let (memory, length) = (memory(words), words.number(&Number::any("LENGTH")));
+            Some(Call::Forget(memory?, length?))
+        }
+        "set-register" => {
+            let (kind, selector) = register(words);
+            let value = given(words);
+            Some(Call::SetRegister {
+                kind: kind?,
+                selector: selector?,
+                value,
+            })
+        }
+        "read-register" => {
+            let (kind, selector) = register(words);
+            let room = length("ROOM", words);
+            Some(Call::ReadRegister {
+                kind: kind?,
+                selector: selector?,
+                room: room?,
+            })
+        }
+        "load-parts" => Some(Call::LoadParts(given(words))),
+        "save-parts" => length("ROOM", words).map(Call::SaveParts),
+        "stop" => Some(Call::Stop),
+        "start" => Some(Call::Start),
+        "step" => {
+            let (place, stream) = (words.number(&Number::any("PLACE")), given(words));
+            Some(Call::Step(place?, stream))
+        }
+        _ => unreachable!("FORMS has no other call"),
+    }
+}
+
+fn device(words: &mut Words) -> Option<DeviceAddress> {
+    words.number(&Number::any("DEVICE")).map(DeviceAddress)
+}
+
+fn memory(words: &mut Words) -> Option<MemoryAddress> {
+    words.number(&Number::any("MEMORY")).map(MemoryAddress)
+}
+
+/// The length of a buffer.
+fn length(name: &'static str, words: &mut Words) -> Option<usize> {
+    let length = words.number(&Number::up_to(name, BYTES_MAX))?;
+    Some(length as usize)
+}
+
+fn register(words: &mut Words) -> (Option<u64>, Option<u64>) {
+    let kind = words.number(&Number::any("TYPE"));
+    let selector = words.number(&Number::any("SELECTOR"));
+    (kind, selector)
+}
+
+/// Bytes of which none is stale.
+fn given(words: &mut Words) -> Pattern {
+    bytes::read(words, Stale::Forbidden)
+}
+
+fn no_such_call(name: &str) -> String {
+    let names: Vec<&str> = FORMS.iter().map(|(known, _)| *known).collect();
+    let name = quoted(name);
+    format!("{name} is no call; calls are {}", names.join(", "))
+}

@@ -1,0 +1,290 @@
+//! The requests that can be called by name, and what each of them prints.
+
+use super::bytes::{Pattern, BYTES_MAX};
+use super::number::Number;
+use super::words::{quoted, Word, Words};
+use super::Call;
+
+/// No listed request is larger.
+const SIZE_MAX: usize = 32;
+
+const CONTAINER: u64 = 0;
+const DEVICE: u64 = 1;
+
+/// A listed request.
+struct Listed {
+    target: u64,
+    name: &'static str,
+    number: u64,
+    size: usize,
+    /// Whether it gives output fields, so that its buffer is printed.
+    output: bool,
+    fields: &'static [Field],
+}
+
+/// An input field of a request.
+struct Field {
+    name: &'static str,
+    offset: usize,
+    width: usize,
+}
+
+const fn field(name: &'static str, offset: usize, width: usize) -> Field {
+    Field {
+        name,
+        offset,
+        width,
+    }
+}
+
+const ARGSZ: Field = field("argsz", 0, 4);
+
+const LISTED: [Listed; 9] = [
+    Listed {
+        target: CONTAINER,
+        name: "api-version",
+        number: 100,
+        size: 0,
+        output: false,
+        fields: &[],
+    },
+    Listed {
+        target: CONTAINER,
+        name: "check-extension",
+        number: 101,
+        size: 4,
+        output: false,
+        fields: &[field("number", 0, 4)],
+    },
+    Listed {
+        target: CONTAINER,
+        name: "iommu-info",
+        number: 112,
+        size: 16,
+        output: true,
+        fields: &[ARGSZ],
+    },
+    Listed {
+        target: CONTAINER,
+        name: "map",
+        number: 113,
+        size: SIZE_MAX,
+        output: false,
+        fields: &[
+            ARGSZ,
+            field("flags", 4, 4),
+            field("memory", 8, 8),
+            field("device", 16, 8),
+            field("size", 24, 8),
+        ],
+    },
+    Listed {
+        target: CONTAINER,
+        name: "unmap",
+        number: 114,
+        size: 24,
+        output: true,
+        fields: &[
+            ARGSZ,
+            field("flags", 4, 4),
+            field("device", 8, 8),
+            field("size", 16, 8),
+        ],
+    },
+    Listed {
+        target: DEVICE,
+        name: "info",
+        number: 107,
+        size: 16,
+        output: true,
+        fields: &[ARGSZ],
+    },
+    Listed {
+        target: DEVICE,
+        name: "region-info",
+        number: 108,
+        size: SIZE_MAX,
+        output: true,
+        fields: &[ARGSZ, field("index", 8, 4)],
+    },
+    Listed {
+        target: DEVICE,
+        name: "irq-info",
+        number: 109,
+        size: 16,
+        output: true,
+        fields: &[ARGSZ, field("index", 8, 4)],
+    },
+    Listed {
+        target: DEVICE,
+        name: "reset",
+        number: 111,
+        size: 0,
+        output: false,
+        fields: &[],
+    },
+];
+
+/// How many of the buffer's first bytes an accepted request prints, if it prints them at all.
+pub fn output_size(target: u64, number: u64) -> Option<usize> {
+    LISTED
+        .iter()
+        .find(|listed| listed.target == target && listed.number == number && listed.output)
+        .map(|listed| listed.size)
+}
+
+/// A request, from behind its first word on.
+pub fn read(words: &mut Words) -> Option<Call> {
+    let target = target(words);
+    let Some(word) = words.peek().cloned() else {
+        words.missing("the request's NUMBER or NAME");
+        return None;
+    };
+    // A name starts with no digit.
+    let named = word
+        .plain()
+        .is_some_and(|text| !text.starts_with(|c: char| c.is_ascii_digit()));
+    if named {
+        words.next();
+        return by_name(target, &word, words);
+    }
+    let number = words.number(&Number::any("the request's NUMBER"));
+    let buffer = super::bytes::read(words, super::bytes::Stale::Allowed);
+    Some(Call::Request {
+        target: target?,
+        number: number?,
+        buffer,
+    })
+}
+
+fn target(words: &mut Words) -> Option<u64> {
+    let name = "TARGET (`container`, `device` or a number)";
+    match words.peek()?.plain() {
+        Some("container") => words.next().map(|_| CONTAINER),
+        Some("device") => words.next().map(|_| DEVICE),
+        _ => words.number(&Number::any(name)),
+    }
+}
+
+/// The request of a name. Without a target, fields cannot be judged: its fault is noted already.
+fn by_name(target: Option<u64>, word: &Word, words: &mut Words) -> Option<Call> {
+    let Some((target, name)) = target.zip(word.plain()) else {
+        words.skip();
+        return None;
+    };
+    let found = LISTED
+        .iter()
+        .find(|listed| listed.target == target && listed.name == name);
+    let Some(listed) = found else {
+        words.fault(word.column, no_such_name(target, name));
+        words.skip();
+        return None;
+    };
+    let mut fields = Fields::new(listed);
+    while let Some(word) = words.next() {
+        if let Err((column, message)) = fields.set(&word) {
+            words.fault(column, message);
+        }
+    }
+    Some(Call::Request {
+        target,
+        number: listed.number,
+        buffer: fields.buffer(),
+    })
+}
+
+fn no_such_name(target: u64, name: &str) -> String {
+    let names: Vec<&str> = LISTED
+        .iter()
+        .filter(|listed| listed.target == target)
+        .map(|listed| listed.name)
+        .collect();
+    if names.is_empty() {
+        return format!("target {target} has no request by name; `container` and `device` have");
+    }
+    let (name, names) = (quoted(name), names.join(", "));
+    format!("{name} is no request of this target; its requests are {names}, or a number")
+}
+
+/// The fields of a named request as far as its line gives them.
+struct Fields {
+    listed: &'static Listed,
+    values: Vec<Option<u64>>,
+    room: Option<u64>,
+}
+
+impl Fields {
+    fn new(listed: &'static Listed) -> Fields {
+        Fields {
+            listed,
+            values: vec![None; listed.fields.len()],
+            room: None,
+        }
+    }
+
+    /// Takes a word `FIELD=NUMBER`; a fault is a column and a message.
+    fn set(&mut self, word: &Word) -> Result<(), (usize, String)> {
+        let text = word.plain().unwrap_or("\"..\"");
+        let Some((name, value)) = text.split_once('=') else {
+            return Err((word.column, self.no_such_field(text)));
+        };
+        let index = self.listed.fields.iter().position(|f| f.name == name);
+        let (slot, wanted) = match (name, index) {
+            ("room", _) => (&mut self.room, Number::up_to("room", BYTES_MAX)),
+            (_, Some(index)) => (&mut self.values[index], self.listed.fields[index].number()),
+            _ => return Err((word.column, self.no_such_field(name))),
+        };
+        if slot.is_some() {
+            return Err((word.column, format!("`{name}` is given twice")));
+        }
+        let column = word.column + name.chars().count() + 1;
+        // A faulty value still counts as given.
+        *slot = Some(0);
+        *slot = Some(wanted.read(value).map_err(|message| (column, message))?);
+        Ok(())
+    }
+
+    fn no_such_field(&self, name: &str) -> String {
+        let mut names: Vec<&str> = self.listed.fields.iter().map(|f| f.name).collect();
+        names.push("room");
+        let names = names.join("=, ");
+        format!(
+            "{} is no field of {}; it takes {names}=",
+            quoted(name),
+            self.listed.name
+        )
+    }
+
+    /// The buffer: the fields, cut off where it ends, and all other bytes stale.
+    fn buffer(&self) -> Pattern {
+        let room = self.room.map_or(self.listed.size, |room| room as usize);
+        let mut pattern = Pattern::default();
+        let mut end = 0;
+        for (field, value) in self.listed.fields.iter().zip(&self.values) {
+            let start = field.offset.min(room);
+            pattern.push_stale(start - end);
+            end = (field.offset + field.width).min(room);
+            let value = value.unwrap_or(self.default(field)).to_le_bytes();
+            pattern.push_given(value[..end - start].to_vec());
+        }
+        pattern.push_stale(room - end);
+        pattern
+    }
+
+    fn default(&self, field: &Field) -> u64 {
+        match field.name {
+            "argsz" => self.listed.size as u64,
+            _ => 0,
+        }
+    }
+}
+
+impl Field {
+    fn number(&self) -> Number {
+        let max = match self.width {
+            4 => u64::from(u32::MAX),
+            _ => u64::MAX,
+        };
+        Number::up_to(self.name, max)
+    }
+}

@@ -1,0 +1,422 @@
+//! The program as it is run: what it prints, and its exit statuses.
+
+use std::fs;
+use std::path::{Path, PathBuf};
+use std::process::{Command, Output, Stdio};
+
+fn program() -> Command {
+    Command::new(env!("CARGO_BIN_EXE_glintbasket"))
+}
+
+fn run(arguments: &[&str]) -> Output {
+    program().args(arguments).output().unwrap()
+}
+
+/// A file of this name, that no other test uses.
+fn path(name: &str) -> PathBuf {
+    Path::new(env!("CARGO_TARGET_TMPDIR")).join(name)
+}
+
+fn file(name: &str, content: &str) -> String {
+    let path = path(name);
+    fs::write(&path, content).unwrap();
+    path.to_str().unwrap().to_string()
+}
+
+fn sessions() -> Vec<String> {
+    let directory = Path::new(env!("CARGO_MANIFEST_DIR")).join("../../sessions");
+    let mut files: Vec<String> = fs::read_dir(directory)
+        .unwrap()
+        .map(|entry| entry.unwrap().path().to_str().unwrap().to_string())
+        .filter(|path| path.ends_with(".session"))
+        .collect();
+    files.sort();
+    assert!(!files.is_empty());
+    files
+}
+
+#[track_caller]
+fn assert_run(output: &Output, status: i32, out: &str, err: &str) {
+    assert_eq!(String::from_utf8_lossy(&output.stderr), err);
+    assert_eq!(String::from_utf8_lossy(&output.stdout), out);
+    assert_eq!(output.status.code(), Some(status));
+}
+
+/// Nothing was played, and standard error says why.
+#[track_caller]
+fn assert_not_played(output: &Output, why: &str) {
+    let err = String::from_utf8_lossy(&output.stderr);
+    assert!(err.contains(why), "{err}");
+    assert!(output.stdout.is_empty());
+    assert_eq!(output.status.code(), Some(2));
+}
+
+#[track_caller]
+fn assert_not_written(output: &Output, why: &str) {
+    let err = String::from_utf8_lossy(&output.stderr);
+    assert!(err.contains(why), "{err}");
+    assert!(!err.contains("panicked"), "{err}");
+    assert_eq!(output.status.code(), Some(3));
+}
+
+#[test]
+fn every_session_plays_and_meets_its_expectations() {
+    for session in sessions() {
+        let output = run(&["play", &session]);
+        let out = String::from_utf8_lossy(&output.stdout);
+        assert_eq!(output.status.code(), Some(0), "{session}: {out}");
+        assert!(!out.is_empty());
+    }
+}
+
+#[test]
+fn every_session_plays_alike_under_two_garbages() {
+    for session in sessions() {
+        let once = run(&["play", &session]);
+        let twice = run(&["play", "--twice", &session]);
+        let mut expected = String::from_utf8(once.stdout).unwrap();
+        expected.push_str("all lines alike under garbage 0xa5 and 0x5a\n");
+        assert_run(&twice, 0, &expected, "");
+    }
+}
+
+const EVERY_OUTCOME: &str = "\
+memory 0x2000
+
+request container map flags=3 memory=0x1000 device=0x10000 size=0x1000
+look-up 0x10010
+host-store 0x1010 \"hi\"
+card-read 0x10010 2
+card-read 0x10010 0
+card-read 0x10010 3
+card-write 0x10012 \"!\"
+host-load 0x1010 3
+forget 0x1010 1
+set-register 0x103 0 0f
+read-register 0x103 0 8
+save-parts 64
+start
+save-parts 64
+stop
+load-parts -
+request device info room=20
+request device reset
+power-on
+step 0 0301 00 00 0000000000000000 01000000 0f
+step 17 0301 00 00 0000000000000000 01000000 0f
+step 18 0301 00 00 0000000000000000 01000000 0f
+request 7 100 -
+";
+
+const EVERY_OUTCOME_PLAYED: &str = "\
+3: ok 0
+4: ok 4112 rights 3
+5: ok 0
+6: ok 0 : 68 69
+7: ok 0 : -
+8: refused 16 Unwritten at 2
+9: ok 0
+10: ok 0 : 68 69 21
+11: ok 0
+12: ok 0
+13: ok 1 : 0f
+14: ok 41 : 00 01 01 00 00 00 00 00 00 00 00 00 08 00 00 00 00 00 00 30 01 00 00 00 \
+03 01 00 00 00 00 00 00 00 00 00 00 01 00 00 00 0f
+15: ok 0
+16: refused 17 Running at 0
+17: ok 0
+18: refused 24 Missing at 0
+19: ok 0 : 10 00 00 00 03 00 00 00 09 00 00 00 04 00 00 00
+20: ok 0
+21: ok 0
+22: part 0x103 flags 0 selector 0 next 17 : 0f
+23: end
+24: refused 18 Truncated at 18
+25: refused 2 NoSuchRequest at 0
+";
+
+#[test]
+fn every_call_and_outcome_is_printed() {
+    let session = file("outcomes.session", EVERY_OUTCOME);
+    assert_run(&run(&["play", &session]), 0, EVERY_OUTCOME_PLAYED, "");
+}
+
+#[test]
+fn an_unmet_expectation_is_printed_and_playing_goes_on() {
+    let session = file(
+        "unmet.session",
+        "memory 0\nstop  => ok  1\nstart => ok \t 0\n",
+    );
+    let expected = "2: ok 0\n2: expected ok 1\n3: ok 0\n";
+    assert_run(&run(&["play", &session]), 1, expected, "");
+}
+
+#[test]
+fn all_faults_are_told_and_nothing_is_played() {
+    let session = file("faults.session", "memory 0\nstop\nlook-up x\nstop 1\n");
+    let expected = format!(
+        "{session}:3:9: DEVICE: `x` is no number (decimal, or hexadecimal with 0x)\n\
+         {session}:4:6: the line should end here: `stop`\n"
+    );
+    for command in ["play", "show"] {
+        assert_run(&run(&[command, &session]), 2, "", &expected);
+    }
+    assert_run(&run(&["play", "--twice", &session]), 2, "", &expected);
+}
+
+#[test]
+fn a_line_with_too_many_bytes_is_a_fault() {
+    let bytes = "5a".repeat((1 << 20) + 1);
+    let session = file("long.session", &format!("memory 0\nload-parts {bytes}\n"));
+    let expected = format!("{session}:2:12: BYTES of one line are at most 1048576\n");
+    assert_run(&run(&["play", &session]), 2, "", &expected);
+}
+
+#[test]
+fn files_that_cannot_be_read_are_told() {
+    let missing = run(&["play", path("missing.session").to_str().unwrap()]);
+    assert_not_played(&missing, "missing.session: No such file");
+    let directory = run(&["play", env!("CARGO_TARGET_TMPDIR")]);
+    assert_not_played(&directory, "is a directory, not a session file");
+}
+
+#[test]
+fn wrong_command_lines_are_told() {
+    for (arguments, why) in [
+        (&[][..], "a command is missing"),
+        (&["play"], "FILE is missing"),
+        (&["play", "--loud", "x"], "\"--loud\" is no flag"),
+        (
+            &["play", "--garbage", "256", "x"],
+            "--garbage: BYTE: `256` is above 255",
+        ),
+        (&["show", "x", "y"], "FILE is given twice"),
+    ] {
+        let output = run(arguments);
+        assert_not_played(&output, &format!("glintbasket: {why}\n"));
+        assert_not_played(&output, "usage: glintbasket play");
+    }
+}
+
+#[test]
+fn help_and_version_are_printed() {
+    let help = run(&["--help"]);
+    let out = String::from_utf8(help.stdout).unwrap();
+    for word in [
+        "play",
+        "show",
+        "--garbage",
+        "--twice",
+        "--svg",
+        "Exit status",
+    ] {
+        assert!(out.contains(word), "{word}");
+    }
+    assert_eq!(help.status.code(), Some(0));
+    let version = format!("glintbasket {}\n", env!("CARGO_PKG_VERSION"));
+    assert_run(&run(&["--version"]), 0, &version, "");
+}
+
+#[test]
+fn the_manual_page_has_every_flag_and_status() {
+    let page = Path::new(env!("CARGO_MANIFEST_DIR")).join("../../man/glintbasket.1");
+    let page = fs::read_to_string(page).unwrap().replace("\\-", "-");
+    for flag in ["--garbage", "--twice", "--svg", "--help", "--version"] {
+        assert!(page.contains(flag), "{flag}");
+    }
+    for status in ["0", "1", "2", "3"] {
+        assert!(page.contains(&format!(".TP\n.B {status}\n")), "{status}");
+    }
+    assert!(page.contains(&format!("glintbasket {}", env!("CARGO_PKG_VERSION"))));
+}
+
+/// Whether the extension 3 is asked for depends on a stale byte.
+const LEAK: &str = "memory 0 garbage 3\nrequest container 101 ?*1 00*3\nstop\n";
+
+#[test]
+fn garbage_comes_from_the_file_or_the_command_line() {
+    let session = file("garbage.session", LEAK);
+    let played = run(&["play", &session]);
+    assert_run(&played, 0, "2: ok 1\n3: ok 0\n", "");
+    let other = run(&["play", "--garbage", "0x04", &session]);
+    assert_run(&other, 0, "2: ok 0\n3: ok 0\n", "");
+}
+
+#[test]
+fn twice_shows_what_differs() {
+    let session = file("leak.session", LEAK);
+    let expected = "\
+2: ok 1
+2: differs with garbage 0xfc:
+2: ok 0
+3: ok 0
+lines differ under garbage 0x03 and 0xfc
+";
+    assert_run(&run(&["play", "--twice", &session]), 1, expected, "");
+}
+
+#[test]
+fn twice_looks_at_expectations_too() {
+    let session = file("twice-unmet.session", "memory 0\nstop => ok 1\n");
+    let expected = "\
+2: ok 0
+2: expected ok 1
+all lines alike under garbage 0xa5 and 0x5a
+";
+    assert_run(&run(&["play", "--twice", &session]), 1, expected, "");
+}
+
+const PICTURED: &str = "\
+memory 0x4800
+request container map flags=1 memory=0x1000 device=0x10000 size=0x2000
+request container map flags=3 memory=0x2000 device=0x20000 size=0x1000
+host-store 0x1000 \"hello\"
+host-store 0x2000 00*4096
+card-read 0x10000 6  => refused 16 Unwritten at 5
+card-read 0x30000 0
+stop => ok 1
+";
+
+const PICTURED_SHOWN: &str = "\
+8: ok 0
+8: expected ok 1
+memory: 18432 bytes, pages of 4096 bytes: 5
+  memory                     pages  written                       mapped by
+  0x0..0xfff                     1  unwritten                     -
+  0x1000..0x1fff                 1  in part: 5 of 4096 bytes      1
+  0x2000..0x2fff                 1  written                       1, 2
+  0x3000..0x47ff                 2  unwritten                     -
+  (unwritten: never written, or forgotten since)
+
+mappings: 2
+   1  device 0x10000..0x11fff shows memory 0x1000..0x2fff: read
+   2  device 0x20000..0x20fff shows memory 0x2000..0x2fff: read, write
+
+last refused byte: line 6, refused 16 Unwritten at 5: device address 0x10005, memory address 0x1005
+  memory 0x1000 at the end: 68  65  6c  6c  6f [..] ..  ..  ..  ..  ..  ..  ..  ..  ..  ..   \
+(.. is unwritten)
+";
+
+#[test]
+fn show_prints_pages_mappings_and_the_refused_byte() {
+    let session = file("show.session", PICTURED);
+    assert_run(&run(&["show", &session]), 1, PICTURED_SHOWN, "");
+}
+
+#[test]
+fn show_tells_a_byte_in_no_mapping() {
+    let session = file("unmapped.session", "memory 0\ncard-read 5 1\n");
+    let expected = "\
+memory: 0 bytes, pages of 4096 bytes: 0
+
+mappings: none
+
+last refused byte: line 2, refused 14 Unmapped at 0: device address 0x5, in no mapping
+";
+    assert_run(&run(&["show", &session]), 0, expected, "");
+}
+
+#[test]
+fn show_tells_the_last_of_several_refused_bytes() {
+    let session = file(
+        "last.session",
+        "memory 1\ncard-read 5 1\nhost-load 0 1\nhost-load 1 1\nstep 1 -\n",
+    );
+    let output = run(&["show", &session]);
+    let out = String::from_utf8(output.stdout).unwrap();
+    let line = "last refused byte: line 3, refused 16 Unwritten at 0: memory address 0x0\n";
+    assert!(out.contains(line), "{out}");
+}
+
+/// Every element that is opened is closed, in order.
+fn is_balanced(xml: &str) -> bool {
+    let mut open = Vec::new();
+    for tag in xml.split('<').skip(1) {
+        let tag = tag.split('>').next().unwrap();
+        let name = tag.split([' ', '/']).find(|part| !part.is_empty()).unwrap();
+        if tag.starts_with('/') {
+            if open.pop() != Some(name) {
+                return false;
+            }
+        } else if !tag.ends_with('/') {
+            open.push(name);
+        }
+    }
+    open.is_empty()
+}
+
+#[test]
+fn the_picture_has_every_page_the_mappings_and_a_legend() {
+    let session = file("picture.session", PICTURED);
+    let svg = path("picture.svg");
+    let output = run(&["show", "--svg", svg.to_str().unwrap(), &session]);
+    assert_run(&output, 1, PICTURED_SHOWN, "");
+    let picture = fs::read_to_string(svg).unwrap();
+    assert!(picture.starts_with("<svg xmlns=\"http://www.w3.org/2000/svg\""));
+    assert!(is_balanced(&picture));
+    // Five pages; their states show once in the grid and once in the legend, bytes and letters' frames besides.
+    assert_eq!(picture.matches("<g><title>memory 0x").count(), 5);
+    assert_eq!(picture.matches("class=\"in-part\"").count(), 1 + 1);
+    assert_eq!(picture.matches("class=\"frame\"").count(), 2 + 3);
+    assert_eq!(picture.matches("class=\"disc\"").count(), 1 + 1 + 1);
+    for text in [
+        "picture.session</text>",
+        "Legend",
+        "memory 0x1000..0x1fff: 5 of 4096 bytes written",
+        "device 0x20000..0x20fff shows memory 0x2000..0x2fff: read, write",
+        "refused 16 Unwritten at 5",
+    ] {
+        assert!(picture.contains(text), "{text}");
+    }
+}
+
+#[test]
+fn the_picture_of_a_large_memory_stays_small() {
+    let session = file("large.session", "memory 0x4000000\nhost-store 0 01\n");
+    let svg = path("large.svg");
+    let output = run(&["show", "--svg", svg.to_str().unwrap(), &session]);
+    assert_eq!(output.status.code(), Some(0));
+    let picture = fs::read_to_string(svg).unwrap();
+    assert!(picture.contains("each cell is 32 pages"));
+    assert_eq!(picture.matches("<g><title>memory 0x").count(), 512);
+}
+
+#[test]
+fn a_picture_never_overwrites_its_session() {
+    let session = file("own.session", "memory 0\n");
+    let output = run(&["show", "--svg", &session, &session]);
+    assert_not_played(&output, "own.session: is the session file itself");
+    assert_eq!(fs::read_to_string(&session).unwrap(), "memory 0\n");
+}
+
+#[test]
+fn a_picture_that_cannot_be_written_is_told() {
+    let session = file("nowhere.session", "memory 0\n");
+    let svg = path("no-such-directory/picture.svg");
+    let output = run(&["show", "--svg", svg.to_str().unwrap(), &session]);
+    assert_not_written(&output, "picture.svg: No such file");
+}
+
+#[test]
+fn a_closed_pipe_is_told() {
+    let session = file(
+        "pipe.session",
+        &format!("memory 0\n{}", "stop\n".repeat(5000)),
+    );
+    for arguments in [&["play"][..], &["play", "--twice"], &["show"], &["--help"]] {
+        let mut command = program();
+        command.args(arguments);
+        if arguments[0] != "--help" {
+            command.arg(&session);
+        }
+        let (reader, writer) = std::io::pipe().unwrap();
+        drop(reader);
+        let child = command
+            .stdout(writer)
+            .stderr(Stdio::piped())
+            .spawn()
+            .unwrap();
+        let output = child.wait_with_output().unwrap();
+        assert_not_written(&output, "glintbasket: standard output: Broken pipe");
+    }
+}
