@@ -242,20 +242,20 @@ impl Arguments {
         }
     }
 
-    /// BYTES in which none may be stale.
+    /// BYTES in which none may be stale, not even none of them (`?*0`).
     fn bytes(&mut self) -> Vec<u8> {
-        let columns_and_bytes = self.bytes_or_stale();
-        let mut bytes = Vec::new();
-        for (column, byte) in columns_and_bytes {
-            match byte {
-                Some(byte) => bytes.push(byte),
-                None => {
-                    self.fault(column, "stale bytes may stand only in a request's buffer");
-                    return bytes;
-                }
-            }
+        let left = self.taken.min(self.words.len());
+        let is_stale =
+            |word: &&Word| matches!(&word.form, Form::Plain(text) if text.starts_with("?*"));
+        let stale = self.words[left..]
+            .iter()
+            .find(is_stale)
+            .map(|word| word.column);
+        let bytes = self.bytes_or_stale();
+        if let Some(column) = stale {
+            self.fault(column, "stale bytes may stand only in a request's buffer");
         }
-        bytes
+        bytes.into_iter().filter_map(|(_, byte)| byte).collect()
     }
 
     /// All words that are left as BYTES, each byte with the column of its word.
