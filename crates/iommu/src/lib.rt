@@ -54,13 +54,7 @@ fn valid_rights(rights: u32) -> bool
 fn aligned_mapping(m: Mapping) -> bool
     ensures { λ r. ⌜ r ≡ alignedMapping m ⌝ }
 {
-    if !address::aligned(m.memory.0) {
-        return false;
-    }
-    if !address::aligned(m.device.0) {
-        return false;
-    }
-    address::aligned(m.size)
+    address::all_aligned(m.memory.0, m.device.0, m.size)
 }
 
 // Whether a mapping ends at 2^48 or below, and inside a memory of `size` bytes.

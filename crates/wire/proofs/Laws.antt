@@ -1,6 +1,6 @@
 -- Laws of little-endian fields, each proved once over the width.
 use Prim.Native.Nat.{ℕ, zero, suc, _+_, _*_, _-_, _/_, _%_, _^_, _≤_, _<_}
-use native.Mathlib.Nat.{pow-suc, pow-le-pow-right, add-suc, suc-add, add-zero}
+use native.Mathlib.Nat.{pow-suc, add-suc, suc-add, add-zero, zero-add, mul-comm, mul-assoc}
 use native.Mathlib.Numerals.{add-one}
 use native.Mathlib.Omega.{arith}
 use mathlib.Core.Path.{_≡_, refl, sym, _∙_, ap}
@@ -78,21 +78,19 @@ field-sets l o (suc w) x room h =
     let rest = field-sets (set l o (x % 256)) (suc o) w (x / 256) (omega (arith, length-set l o (x % 256))) (let e = pow-suc 256 w in omega arith) in
     rw (first, rest) (omega arith)
 
--- ---- a loop that reads a field, its last byte first
+-- ---- a field is its two halves
 
-module _ (l : List ℕ) (at width i x : ℕ) (pos : 0 < i) (most : i ≤ width) (is : x ≡ field l (at + i) (width - i)) where
-  pub field-more : x * 256 + getD l (at + (i - 1)) 0 ≡ field l (at + (i - 1)) (width - (i - 1))
-  unfolding field
-  field-more =
-      let e : width - (i - 1) ≡ suc (width - i) = omega arith in
-      let f : suc (at + (i - 1)) ≡ at + i = omega arith in
-      rw (e, f, ← is) (omega arith)
+pub field-split : (l : List ℕ) (o w v : ℕ) → field l o (w + v) ≡ field l o w + 256 ^ w * field l (o + w) v
+unfolding field
+field-split l o zero v = rw (zero-add v, add-zero o) (omega arith)
+field-split l o (suc w) v =
+    let e : suc o + w ≡ o + suc w = omega arith in
+    let f : 256 ^ suc w * field l (o + suc w) v ≡ 256 * (256 ^ w * field l (o + suc w) v) =
+    rw (pow-suc 256 w, mul-comm (256 ^ w) 256) (mul-assoc 256 (256 ^ w) (field l (o + suc w) v)) in
+    rw (suc-add w v, field-split l (suc o) w v, e, f) (omega arith)
 
-  pub field-room : width ≤ 8 → ((k : ℕ) → getD l k 0 < 256) → x < 256 ^ 7
-  field-room small bytes =
-      let few : width - i ≤ 7 = omega arith in
-      let p : 256 ^ (width - i) ≤ 256 ^ 7 = pow-le-pow-right {n = 256} (omega arith) few in
-      omega (arith, field-lt l bytes (at + i) (width - i))
+pub field-halves : (l : List ℕ) (o w : ℕ) {low high : ℕ} → low ≡ field l o w → high ≡ field l (o + w) w → low + high * 256 ^ w ≡ field l o (w + w)
+field-halves l o w e f = rw (e, f) (sym (field-split l o w w ∙ rw (mul-comm (256 ^ w) (field l (o + w) w))))
 
 -- ---- a loop that writes a number, its first byte first
 

@@ -5,47 +5,39 @@ ghost use lib.ListN.{length, replicate};
 ghost use lib.Seq.{sets};
 ghost use Rattle.wire.specs.Field.{field, bytesOf, part};
 
-// The number that the `width` bytes from `at` on make. Each width calls it with a constant, for which the loop is unrolled.
-fn get(s: &[u8], at: usize, width: usize) -> u64
-    requires { ⌜ (at + width ≤ length (now s)) × (width ≤ 8) ⌝ }
-    ensures { λ r. ⌜ r ≡ field (now (s .entry)) at width ⌝ }
-{
-    let mut x: u64 = 0;
-    let mut i = width;
-    while 0 < i {
-        i -= 1;
-        let b = s[at + i] as u64;
-        x = x * 256 + b;
-    }
-    x
-}
-
+// A field is read as its two halves, down to bytes: the compiler makes one load of that, and none of a loop over the bytes.
 pub fn get_u8(s: &[u8], at: usize) -> u8
     requires { ⌜ at + 1 ≤ length (now s) ⌝ }
     ensures { λ r. ⌜ r ≡ field (now (s .entry)) at 1 ⌝ }
 {
-    get(s, at, 1) as u8
+    s[at]
 }
 
 pub fn get_u16(s: &[u8], at: usize) -> u16
     requires { ⌜ at + 2 ≤ length (now s) ⌝ }
     ensures { λ r. ⌜ r ≡ field (now (s .entry)) at 2 ⌝ }
 {
-    get(s, at, 2) as u16
+    let low = get_u8(s, at) as u16;
+    let high = get_u8(s, at + 1) as u16;
+    low + high * 0x100
 }
 
 pub fn get_u32(s: &[u8], at: usize) -> u32
     requires { ⌜ at + 4 ≤ length (now s) ⌝ }
     ensures { λ r. ⌜ r ≡ field (now (s .entry)) at 4 ⌝ }
 {
-    get(s, at, 4) as u32
+    let low = get_u16(s, at) as u32;
+    let high = get_u16(s, at + 2) as u32;
+    low + high * 0x10000
 }
 
 pub fn get_u64(s: &[u8], at: usize) -> u64
     requires { ⌜ at + 8 ≤ length (now s) ⌝ }
     ensures { λ r. ⌜ r ≡ field (now (s .entry)) at 8 ⌝ }
 {
-    get(s, at, 8)
+    let low = get_u32(s, at) as u64;
+    let high = get_u32(s, at + 4) as u64;
+    low + high * 0x100000000
 }
 
 // Writes a number as `width` bytes from `at` on.

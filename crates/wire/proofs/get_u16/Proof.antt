@@ -1,21 +1,44 @@
--- `wire::get_u16` meets its contract: a field of 2 bytes fits.
-use native.Mathlib.Omega.{arith}
+-- `wire::get_u16` meets its contract: a field of 2 bytes is two of 1.
 use borrow.Author.Needs.{needs}
-use Rattle.wire.proofs.Laws.{field-lt}
+use Rattle.wire.proofs.Laws.{field-halves}
 use Rattle.wire.proofs.get_u16.Statement.{statement}
 use Rattle.wire.proofs.get_u16.Tie as tie
 
-get-requires : tie.Need-get-requires
-get-requires c κs = search needs
+get-u8-requires : tie.Need-get-u8-requires
+get-u8-requires c κs = search needs
 
-cast-result : tie.Need-cast-result
-cast-result c =
-    let known = c .before .shared-slice-known .given in
-    let a = c .before .before .args in
-    omega (arith, c .get .ensures, field-lt (a .s .now) (λ k. omega (arith, known k)) (a .at) 2)
+cast-low : tie.Need-cast-low
+cast-low c = search needs
+
+add-get-u8 : tie.Need-add-get-u8
+add-get-u8 c = search needs
+
+get-u8-requires-2 : tie.Need-get-u8-requires-2
+get-u8-requires-2 c κs = search needs
+
+cast-high : tie.Need-cast-high
+cast-high c = search needs
+
+mul-result : tie.Need-mul-result
+mul-result c = search needs
+
+add-result : tie.Need-add-result
+add-result c = search needs
 
 returns : tie.Need-returns
-returns c = search needs
+returns c =
+    let a = c .before .before .before .args in
+    field-halves (a .s .now) (a .at) 1 (c .before .get-u8 .ensures) (c .get-u82 .ensures)
 
 pub get-u16-spec : {M : Type 1} → statement M
-get-u16-spec = tie.close (tie.spec get-requires cast-result returns)
+get-u16-spec =
+    tie.close
+    (tie.spec
+    get-u8-requires
+    cast-low
+    add-get-u8
+    get-u8-requires-2
+    cast-high
+    mul-result
+    add-result
+    returns)

@@ -1,21 +1,16 @@
--- `wire::get_u8` meets its contract: a field of 1 byte fits.
+-- `wire::get_u8` meets its contract: a field of 1 byte is that byte.
 use native.Mathlib.Omega.{arith}
 use borrow.Author.Needs.{needs}
-use Rattle.wire.proofs.Laws.{field-lt}
+use Rattle.wire.specs.Field.{field}
 use Rattle.wire.proofs.get_u8.Statement.{statement}
 use Rattle.wire.proofs.get_u8.Tie as tie
 
-get-requires : tie.Need-get-requires
-get-requires c κs = search needs
-
-cast-result : tie.Need-cast-result
-cast-result c =
-    let known = c .before .shared-slice-known .given in
-    let a = c .before .before .args in
-    omega (arith, c .get .ensures, field-lt (a .s .now) (λ k. omega (arith, known k)) (a .at) 1)
+shared-slice-read-result : tie.Need-shared-slice-read-result
+shared-slice-read-result c = search needs
 
 returns : tie.Need-returns
-returns c = search needs
+unfolding field
+returns c = omega arith
 
 pub get-u8-spec : {M : Type 1} → statement M
-get-u8-spec = tie.close (tie.spec get-requires cast-result returns)
+get-u8-spec = tie.close (tie.spec shared-slice-read-result returns)
