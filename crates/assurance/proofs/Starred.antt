@@ -24,7 +24,7 @@ use Rattle.registers.specs.Values.{powerOfTwo, validQueue, contentChecks, value
 use Rattle.registers.specs.File.{current, withValue, reset, soundValue, soundFrom, soundFile}
 use Rattle.registers.specs.Access.{selectorChecks, setChecks}
 use Rattle.parts.specs.Step.{valueSize, headerChecks, partAt, stepOn, stepAt, valueTo}
-use Rattle.parts.specs.Load.{flagsOf, listedChecks as listedPartChecks, partChecks, taken, finish, onStep, loadFrom, load}
+use Rattle.parts.specs.Load.{flagsOf, listedChecks as listedPartChecks, partChecks, named, taken, finish, onStep, loadFrom, load}
 use Rattle.parts.specs.Save.{encoded, partOf, savedFrom, saved, saveChecks}
 use Rattle.emulator.specs.Machine.{soundMappings, soundLength, sound, lendable, asNoted, usable, poweredOn, withMappings, withRegisters}
 use Rattle.emulator.specs.Effect.{Result, value, location, effectOf, outcomeOf, after, filled}
@@ -95,7 +95,7 @@ all-right (c ∷ cs) h = more (is-right c (and-true _ _ h .0)) (all-right cs (an
 -- ---- the test passes
 
 tested : allRight cases ≡ true
-unfolding sameResult sameAnswer sameBytes right allRight outcomeTo behind outcomeIn mapAt unmapBuffer unmapAt twoMappings statusPart offeredPart regionSeven cases _and_ _or_ pick isSome lengthCheck _then_ _when_ _unless_ _at_ firstFault passes settle _onward_ verdict resultOr aligned inDeviceRange inMemoryRange field bytesOf holds addressIn translate mapped validRights readable alignedMapping inRange soundMapping soundMappingsFrom soundTable touches inside anyOf overlaps cuts insert without sizesOf mapChecks unmapChecks initialized marked shadowLength edit edited stores unwrittenAt hostWriteChecks readFault transferChecks deviceReadChecks kindOf selectorOf sizeOf rowFrom rowOf selects listed selectorWidth powerOfTwo validQueue contentChecks valueChecks current withValue reset soundValue soundFrom soundFile selectorChecks setChecks valueSize headerChecks partAt stepOn stepAt valueTo flagsOf listedPartChecks partChecks taken finish onStep loadFrom load encoded partOf savedFrom saved saveChecks soundMappings soundLength sound lendable asNoted usable poweredOn withMappings withRegisters effectOf outcomeOf after filled entryIn identify regionAt requestedMapping requestedStart requestedSize requestedIndex argszChecks listedChecks requestChecks listedEffect requestEffect given ownChecks checks effect outcome
+unfolding sameResult sameAnswer sameBytes right allRight outcomeTo behind outcomeIn mapAt unmapBuffer unmapAt twoMappings statusPart offeredPart regionSeven cases _and_ _or_ pick isSome lengthCheck _then_ _when_ _unless_ _at_ firstFault passes settle _onward_ verdict resultOr aligned inDeviceRange inMemoryRange field bytesOf holds addressIn translate mapped validRights readable alignedMapping inRange soundMapping soundMappingsFrom soundTable touches inside anyOf overlaps cuts insert without sizesOf mapChecks unmapChecks initialized marked shadowLength edit edited stores unwrittenAt hostWriteChecks readFault transferChecks deviceReadChecks kindOf selectorOf sizeOf rowFrom rowOf selects listed selectorWidth powerOfTwo validQueue contentChecks valueChecks current withValue reset soundValue soundFrom soundFile selectorChecks setChecks valueSize headerChecks partAt stepOn stepAt valueTo flagsOf listedPartChecks partChecks named taken finish onStep loadFrom load encoded partOf savedFrom saved saveChecks soundMappings soundLength sound lendable asNoted usable poweredOn withMappings withRegisters effectOf outcomeOf after filled entryIn identify regionAt requestedMapping requestedStart requestedSize requestedIndex argszChecks listedChecks requestChecks listedEffect requestEffect given ownChecks checks effect outcome
 tested = refl
 
 pub starred : Starred

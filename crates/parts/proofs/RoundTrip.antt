@@ -23,7 +23,7 @@ use Rattle.registers.proofs.Rows.{size-most, kind-fits, selector-fits, row-of-r
 use Rattle.registers.proofs.Values.{value-size}
 use Rattle.registers.proofs.File.{current-sound, current-sized, sound-sized}
 use Rattle.parts.specs.Step.{headerSize, valueSize, partAt, partStep, stepAt, valueTo}
-use Rattle.parts.specs.Load.{Seen, flagsOf, listedChecks, partChecks, taken, finish, onStep, loadFrom, load}
+use Rattle.parts.specs.Load.{Seen, flagsOf, listedChecks, partChecks, named, taken, finish, onStep, loadFrom, load}
 use Rattle.parts.specs.Save.{encoded, partOf, savedFrom, saved}
 use Rattle.parts.specs.RoundTrip.{RoundTrip}
 use Rattle.parts.specs.declared.Step.the-variants.{Part}
@@ -159,8 +159,9 @@ row-rule i h =
     (lt-leb 0x600 (kindOf i) (ltb-true _ _ (d .0)), d .1, b .1)
 
 module _ (seen : Seen) (i : ℕ) (v : List ℕ) (lt : i < rowCount) where
-  part-passes : getD seen i none ≡ none → valueChecks i false v ≡ Pass → partChecks seen (kindOf i) (flagsOf (kindOf i)) (selectorOf i) v ≡ Pass
-  unfolding partChecks listedChecks selects isSome _then_ _when_ _unless_ pick
+  part-passes : getD seen i none ≡ none → valueChecks i false v ≡ Pass
+      → partChecks (named seen (kindOf i) (selectorOf i)) (kindOf i) (flagsOf (kindOf i)) (selectorOf i) v ≡ Pass
+  unfolding partChecks listedChecks named selects isSome _then_ _when_ _unless_ pick
   part-passes e h =
       let r = row-rule i lt in
       rw (r .0, r .1, eq-eqb (flagsOf (kindOf i)) _ refl, r .2, row-of-row i lt, lt-ltb _ _ lt, e) h

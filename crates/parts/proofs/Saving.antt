@@ -5,8 +5,8 @@ use native.Mathlib.Omega.{arith}
 use mathlib.Core.Path.{_≡_, refl, sym, _∙_, ap}
 use mathlib.Core.Bool.{Bool, true, false}
 use mathlib.Core.List.{List, [], _++_}
-use mathlib.Core.Option.{none}
-use lib.ListN.{length, take, length-append}
+use mathlib.Core.Option.{none, some}
+use lib.ListN.{length, getD, take, length-append}
 use lib.Seq.{sets, length-sets, length-take-le}
 use borrow.Author.Tests.{ltb-false}
 use Rattle.answer.specs.declared.Verdict.the-variants.{Pass}
@@ -14,10 +14,11 @@ use Rattle.answer.proofs.Checks.{then-pass, when-pass}
 use Rattle.wire.specs.Field.{bytesOf}
 use Rattle.wire.proofs.Laws.{length-bytes, sets-then}
 use Rattle.registers.specs.Rows.{rowCount, kindOf, selectorOf, sizeOf}
-use Rattle.registers.specs.File.{File, current, valueIn}
+use Rattle.registers.specs.Values.{offered}
+use Rattle.registers.specs.File.{File, current, valueIn, fileOf, registerOf}
 use Rattle.registers.specs.declared.Register.{Register}
 use Rattle.registers.proofs.Rows.{size-most}
-use Rattle.registers.proofs.File.{value-set, value-unset}
+use Rattle.registers.proofs.File.{absent, current-kept, value-set, value-unset, value-written}
 use Rattle.parts.specs.Step.{headerSize}
 use Rattle.parts.specs.Load.{flagsOf}
 use Rattle.parts.specs.Save.{encoded, partOf, savedFrom, saved, saveChecks}
@@ -89,17 +90,48 @@ module _ (file : File) (i : ℕ) (lt : i < rowCount) where
       pub count-part : length (rest file i) ≡ headerSize + sizeOf i + length (rest file (i + 1))
       count-part = ap length rest-part ∙ length-append (encoded i (take (sizeOf i) (r .bytes))) _ ∙ ap (λ (n : ℕ). n + length (rest file (i + 1))) part-long
 
+-- ---- what a row shows
+
+-- the register that code has for offered features
+abbrev pub features : Register
+features = registerOf (some (bytesOf 8 offered))
+
+features-row : (file : File) → valueIn 0 features ≡ current file 0
+unfolding current sizeOf bytesOf
+features-row file = value-written 0 (bytesOf 8 offered) refl
+
+pub features-whole : length (features .bytes) ≡ 32
+unfolding registerOf bytesOf
+features-whole = refl
+
+features-set : features .set ≡ true
+unfolding registerOf
+features-set = refl
+
+pub features-room : (file : File) → headerSize + sizeOf 0 ≤ length (saved file)
+unfolding saved
+features-room file = omega (arith, count-part file 0 (omega arith) features (features-row file) features-whole features-set)
+
+-- the register that is kept for a row, as code reads it
+pub kept-row : (slots : List Register) (i : ℕ) → 0 < i → (r : Register) → (r ≡ getD slots (i - 1) absent) × (length (getD slots (i - 1) absent .bytes) ≡ 32)
+    → (valueIn i r ≡ current (fileOf (record { slots = slots })) i) × (length (r .bytes) ≡ 32)
+kept-row slots i h r e =
+    (ap (valueIn i) (e .0) ∙ sym (current-kept (record { slots = slots }) i h), ap (λ (x : Register). length (x .bytes)) (e .0) ∙ e .1)
+
 -- ---- the loop that counts
 
 -- at its head: `n` bytes and those of the rows from `i` on are all
 pub record Count (file : File) (n i : ℕ) : Type 0 where
+  pub some : 0 < i
   pub most : i ≤ rowCount
   pub small : n ≤ 48 * i
   pub all : n + length (rest file i) ≡ length (saved file)
 
-pub count-start : (file : File) → Count file 0 0
+pub count-start : (file : File) → Count file (headerSize + sizeOf 0) 1
 unfolding saved
-count-start file = record { most = omega arith; small = omega arith; all = omega arith }
+count-start file =
+    let most = size-most 0 (omega arith) in
+    record { some = omega arith; most = omega arith; small = omega arith; all = omega (arith, count-part file 0 (omega arith) features (features-row file) features-whole features-set) }
 
 module _ (file : File) (n i : ℕ) (h : Count file n i) where
   pub count-end : rowCount ≤ i → n ≡ length (saved file)
@@ -108,11 +140,12 @@ module _ (file : File) (n i : ℕ) (h : Count file n i) where
   module _ (lt : i < rowCount) (r : Register) (is : valueIn i r ≡ current file i) where
     pub count-none : r .set ≡ false → (n′ : ℕ) → n′ ≡ n → Count file n′ (i + 1)
     count-none e n′ same =
-        record { most = omega arith; small = omega (arith, h .small); all = omega (arith, h .all, ap length (rest-none file i lt r is e)) }
+        record { some = omega arith; most = omega arith; small = omega (arith, h .small); all = omega (arith, h .all, ap length (rest-none file i lt r is e)) }
 
     pub count-more : length (r .bytes) ≡ 32 → r .set ≡ true → (n′ : ℕ) → n′ ≡ n + headerSize + sizeOf i → Count file n′ (i + 1)
     count-more whole e n′ more =
         record {
+          some = omega arith;
           most = omega arith;
           small = omega (arith, h .small, size-most i lt);
           all = omega (arith, h .all, count-part file i lt r is whole e);
@@ -120,19 +153,36 @@ module _ (file : File) (n i : ℕ) (h : Count file n i) where
 
 -- ---- the loop that writes
 
--- at its head: the parts of the rows from `i` on, written from `p` on, make of the buffer what all make of the one given
+-- at its head: the parts of the rows from `i` on, written from `p` on, make of the buffer what those of the rows that are kept make of the
+-- one that has the part of offered features
 pub record Left (file : File) (buf₀ buf : List ℕ) (p i : ℕ) : Type 0 where
+  pub some : 0 < i
   pub most : i ≤ rowCount
   pub same : length buf ≡ length buf₀
   pub count : p + length (rest file i) ≡ length (saved file)
-  pub bytes : sets buf₀ 0 (saved file) ≡ sets buf p (rest file i)
+  pub bytes : sets buf₀ (headerSize + sizeOf 0) (rest file 1) ≡ sets buf p (rest file i)
 
-pub left-start : (file : File) (buf : List ℕ) → Left file buf buf 0 0
+pub left-start : (file : File) (buf : List ℕ) → Left file buf buf (headerSize + sizeOf 0) 1
 unfolding saved
-left-start file buf = record { most = omega arith; same = refl; count = omega arith; bytes = refl }
+left-start file buf = record {
+  some = omega arith;
+  most = omega arith;
+  same = refl;
+  count = omega (arith, count-part file 0 (omega arith) features (features-row file) features-whole features-set);
+  bytes = refl;
+}
+
+-- the part of offered features and the others behind it are all
+pub left-all : (file : File) (buf : List ℕ) → sets (sets buf 0 (encoded 0 (take (sizeOf 0) (features .bytes)))) (headerSize + sizeOf 0) (rest file 1) ≡ sets buf 0 (saved file)
+unfolding saved
+left-all file buf =
+    let row = features-row file in
+    sets-then buf (encoded 0 (take (sizeOf 0) (features .bytes))) (rest file 1) 0 (headerSize + sizeOf 0)
+    (omega (arith, part-long file 0 (omega arith) features row features-whole features-set))
+    ∙ ap (sets buf 0) (sym (rest-part file 0 (omega arith) features row features-whole features-set))
 
 module _ (file : File) (buf₀ buf : List ℕ) (p i : ℕ) (h : Left file buf₀ buf p i) where
-  pub left-end : rowCount ≤ i → (buf ≡ sets buf₀ 0 (saved file)) × (p ≡ length (saved file))
+  pub left-end : rowCount ≤ i → (buf ≡ sets buf₀ (headerSize + sizeOf 0) (rest file 1)) × (p ≡ length (saved file))
   left-end e = (sym (h .bytes ∙ rw (rest-end file i e)), omega (arith, h .count, ap length (rest-end file i e)))
 
   module _ (lt : i < rowCount) (r : Register) (is : valueIn i r ≡ current file i) where
@@ -141,6 +191,7 @@ module _ (file : File) (buf₀ buf : List ℕ) (p i : ℕ) (h : Left file buf₀
         let none = rest-none file i lt r is e in
         rw (b, q)
         record {
+          some = omega arith;
           most = omega arith;
           same = h .same;
           count = omega (arith, h .count, ap length none);
@@ -156,6 +207,7 @@ module _ (file : File) (buf₀ buf : List ℕ) (p i : ℕ) (h : Left file buf₀
       left-more buf′ p′ b q =
           let part = encoded i (take (sizeOf i) (r .bytes)) in
           record {
+            some = omega arith;
             most = omega arith;
             same = ap length b ∙ length-sets buf p part ∙ h .same;
             count = omega (arith, h .count, count-part file i lt r is whole e);

@@ -53,7 +53,7 @@ once : (i : ℕ) (twice : Bool) (v : List ℕ) → valueChecks i twice v ≡ Pas
 unfolding valueChecks
 once i twice v h = ap (λ (t : Bool). valueChecks i t v) (sym (when-pass _ _ (then-pass _ _ (then-pass _ _ h .1) .0))) ∙ h
 
-module _ (seen : Seen) (kind flags selector : ℕ) (v : List ℕ) (h : partChecks seen kind flags selector v ≡ Pass) (good : Good seen) where
+module _ (seen : Seen) (twice : Bool) (kind flags selector : ℕ) (v : List ℕ) (h : partChecks twice kind flags selector v ≡ Pass) (good : Good seen) where
   value-good : listed kind ≡ true → valueChecks (rowOf kind selector) false v ≡ Pass
   unfolding partChecks listedChecks
   value-good l =
@@ -98,7 +98,7 @@ from-sound (suc fuel) s p seen file e good = step (stepAt s p) e (λ p′ seen�
     step (Part kind flags selector next) e more =
         let o = onward-done _ _ _ e in
         let d = settled _ _ _ (o .1) in
-        more next (o .0) (o .2) (rw (← d .1) (taken-good seen kind flags selector _ (at-pass _ p (d .0)) good))
+        more next (o .0) (o .2) (rw (← d .1) (taken-good seen _ kind flags selector _ (at-pass _ p (d .0)) good))
 
 -- What an accepted stream makes is a sound register file.
 pub load-sound : (running : Bool) (s : List ℕ) (file : File) → load running s ≡ done file → (length file ≡ keptCount) × (soundFile file ≡ true)

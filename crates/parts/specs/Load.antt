@@ -1,7 +1,7 @@
 -- Loading a stream of parts (document 01, "Registers and parts").
 use Prim.Native.Nat.{ℕ, zero, suc, _^_}
 use mathlib.Core.Bool.{Bool, true}
-use mathlib.Core.List.{List}
+use mathlib.Core.List.{List, _∷_}
 use mathlib.Core.Option.{Option, none, some}
 use lib.ListN.{length, getD, set, drop, replicate}
 use lib.Dec.{ltb, leb, eqb}
@@ -34,19 +34,23 @@ unfoldable pub flagsOf : ℕ → ℕ
 flagsOf kind = pick (eqb kind OfferedFeatures) 1 0
 
 -- A part of a listed type: "optional set on a listed type other than 0x100, or clear on 0x100, or a nonzero selector byte outside the
--- field named above (19); selector number not listed (6, place: start of the part)"; then its value
-unfoldable pub listedChecks : Seen → ℕ → ℕ → ℕ → List ℕ → Verdict
-listedChecks seen kind flags selector v =
+-- field named above (19); selector number not listed (6, place: start of the part)"; then its value, which came before where `twice` holds
+unfoldable pub listedChecks : Bool → ℕ → ℕ → ℕ → List ℕ → Verdict
+listedChecks twice kind flags selector v =
     Header unless eqb flags (flagsOf kind)
     then Header unless ltb selector (256 ^ selectorWidth kind)
     then Index unless selects kind selector
-    then valueChecks (rowOf kind selector) (isSome (getD seen (rowOf kind selector) none)) v
+    then valueChecks (rowOf kind selector) twice v
 
 -- A part behind the first three checks: "type 0x600 or above (20); any other unlisted type is skipped if flagged optional (bit 0), else 20"
-unfoldable pub partChecks : Seen → ℕ → ℕ → ℕ → List ℕ → Verdict
-partChecks seen kind flags selector v =
+unfoldable pub partChecks : Bool → ℕ → ℕ → ℕ → List ℕ → Verdict
+partChecks twice kind flags selector v =
     UnknownPart when leb 0x600 kind
-    then pick (listed kind) (listedChecks seen kind flags selector v) (UnknownPart unless eqb flags 1)
+    then pick (listed kind) (listedChecks twice kind flags selector v) (UnknownPart unless eqb flags 1)
+
+-- "same type and selector seen before"
+unfoldable pub named : Seen → ℕ → ℕ → Bool
+named seen kind selector = isSome (getD seen (rowOf kind selector) none)
 
 -- what is seen with a part that passed: a part of an unlisted type is skipped
 unfoldable pub taken : Seen → ℕ → ℕ → List ℕ → Seen
@@ -61,7 +65,7 @@ unfoldable pub onStep : (ℕ → Seen → Answer File) → List ℕ → ℕ → 
 onStep more s p seen End = finish seen p
 onStep more s p seen (Refused code place) = refused code place
 onStep more s p seen (Part kind flags selector next) =
-    settle (partChecks seen kind flags selector (valueTo s p next) at p) (taken seen kind selector (valueTo s p next)) onward more next
+    settle (partChecks (named seen kind selector) kind flags selector (valueTo s p next) at p) (taken seen kind selector (valueTo s p next)) onward more next
 
 -- the parts from place `p` on, fewer than `fuel` of them: a part has 16 bytes at least, so a stream has fewer parts than bytes, or none
 unfoldable pub loadFrom : ℕ → List ℕ → ℕ → Seen → Answer File
@@ -76,17 +80,9 @@ load running s =
 
 -- ---- what the code keeps while it loads, and gives
 
--- what the code's registers for the rows have seen
-abbrev pub seenIn : List Register → Seen
-seenIn rows = fileFrom 0 rows
-
--- whether a part can be taken: its type is not listed, or it names a row and its value fits a register
-unfoldable pub placeable : ℕ → ℕ → List ℕ → Bool
-placeable kind selector v = pick (listed kind) (selects kind selector and leb (length v) 32) true
-
--- the code's registers for the rows with a part taken
-unfoldable pub takenRows : List Register → ℕ → ℕ → List ℕ → List Register
-takenRows rows kind selector v = pick (listed kind) (set rows (rowOf kind selector) (registerOf (some v))) rows
+-- what the parts so far have named, where the code's registers for the rows that are kept hold it, and `x` of offered features
+abbrev pub seenIn : Option (List ℕ) → List Register → Seen
+seenIn x slots = x ∷ fileFrom 1 slots
 
 -- what the code gives for an answer: its verdict, and the registers, those given where it is refused, else those of the file
 unfoldable pub loadedOf : Answer File → Registers → Loaded

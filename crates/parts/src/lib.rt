@@ -3,14 +3,15 @@ use answer::Verdict;
 use registers::Register;
 use registers::Registers;
 ghost use mathlib.Core.Path.{_≡_};
-ghost use mathlib.Core.Bool.{true};
-ghost use Prim.Native.Nat.{_+_, _^_, _≤_, _<_};
-ghost use lib.ListN.{length, take, drop};
+ghost use mathlib.Core.List.{List};
+ghost use mathlib.Core.Option.{Option};
+ghost use Prim.Native.Nat.{ℕ, _+_, _^_, _≤_, _<_};
+ghost use lib.ListN.{length, take};
 ghost use lib.Seq.{sets};
-ghost use Rattle.registers.specs.Rows.{rowCount, sizeOf, selectorWidth};
-ghost use Rattle.registers.specs.File.{fileOf, slotsOf};
+ghost use Rattle.registers.specs.Rows.{rowCount, rowOf, sizeOf, selectorWidth};
+ghost use Rattle.registers.specs.File.{fileOf, fileFrom, slotsOf};
 ghost use Rattle.parts.specs.Step.{headerSize, partStep, stepAt, valueTo, valueAt};
-ghost use Rattle.parts.specs.Load.{flagsOf, listedChecks, partChecks, finish as finished, load as loading, seenIn, placeable, takenRows, loadedOf, fromStart};
+ghost use Rattle.parts.specs.Load.{flagsOf, listedChecks, partChecks, finish as finished, load as loading, seenIn, loadedOf, fromStart};
 ghost use Rattle.parts.specs.Save.{encoded, saved, saveChecks};
 
 // What stands at a place of a stream: a part, whose value reaches from 16 bytes behind that place to `next`; the end; or a refusal.
@@ -128,9 +129,10 @@ fn selector_limit(kind: u64) -> u64
     if width == 2 { 0x10000 } else { 1 }
 }
 
-// A part of a listed type; `seen` has a register for each row of the table.
-fn check_listed(seen: [Register; 15], kind: u64, flags: u8, selector: u64, v: &[u8]) -> Verdict
-    ensures { λ r. ⌜ r ≡ listedChecks (seenIn seen) kind flags selector (now (v .entry)) ⌝ }
+// A part of a listed type. It names a row of the table, which a part named before where `twice` is true.
+fn check_listed(row: usize, twice: bool, kind: u64, flags: u8, selector: u64, v: &[u8]) -> Verdict
+    requires { ⌜ row ≡ rowOf kind selector ⌝ }
+    ensures { λ r. ⌜ r ≡ listedChecks twice kind flags selector (now (v .entry)) ⌝ }
 {
     if flags != flags_of(kind) {
         return Verdict::Fail(answer::HEADER, 0);
@@ -138,22 +140,21 @@ fn check_listed(seen: [Register; 15], kind: u64, flags: u8, selector: u64, v: &[
     if selector_limit(kind) <= selector {
         return Verdict::Fail(answer::HEADER, 0);
     }
-    let row = registers::row_of(kind, selector);
     if registers::ROWS <= row {
         return Verdict::Fail(answer::INDEX, 0);
     }
-    let r = seen[row];
-    registers::check_value(row, r.set, v)
+    registers::check_value(row, twice, v)
 }
 
-fn check_part(seen: [Register; 15], kind: u64, flags: u8, selector: u64, v: &[u8]) -> Verdict
-    ensures { λ r. ⌜ r ≡ partChecks (seenIn seen) kind flags selector (now (v .entry)) ⌝ }
+fn check_part(row: usize, twice: bool, kind: u64, flags: u8, selector: u64, v: &[u8]) -> Verdict
+    requires { ⌜ row ≡ rowOf kind selector ⌝ }
+    ensures { λ r. ⌜ r ≡ partChecks twice kind flags selector (now (v .entry)) ⌝ }
 {
     if RESERVED_KINDS <= kind {
         return Verdict::Fail(answer::UNKNOWN_PART, 0);
     }
     if registers::is_listed(kind) {
-        return check_listed(seen, kind, flags, selector, v);
+        return check_listed(row, twice, kind, flags, selector, v);
     }
     if flags == 1 {
         Verdict::Pass
@@ -162,44 +163,16 @@ fn check_part(seen: [Register; 15], kind: u64, flags: u8, selector: u64, v: &[u8
     }
 }
 
-// What is seen with a part that passed its checks: a part of an unlisted type is skipped.
-fn take_part(seen: [Register; 15], kind: u64, selector: u64, v: &[u8]) -> [Register; 15]
-    requires { ⌜ placeable kind selector (now v) ≡ true ⌝ }
-    ensures { λ r. ⌜ r ≡ takenRows seen kind selector (now (v .entry)) ⌝ }
+// The end of the stream, at place `at`: a register that no part named is not set any more.
+fn finish(registers: Registers, slots: [Register; 14], at: usize) -> Loaded
+    requires { ⌜ slots ≡ slotsOf (fileFrom 1 slots) ⌝ }
+    ensures { λ r. ⌜ ((x : Option (List ℕ)) → r ≡ loadedOf (finished (seenIn x slots) at) registers) ⌝ }
 {
-    let mut rows = seen;
-    if registers::is_listed(kind) {
-        let row = registers::row_of(kind, selector);
-        let r = registers::holding(v);
-        rows[row] = r;
-    }
-    rows
-}
-
-// The registers given, each with what is seen of its row: a register that no part named is not set any more.
-fn replaced(registers: Registers, seen: [Register; 15]) -> Registers
-    ensures { λ r. ⌜ r .slots ≡ drop 1 seen ⌝ }
-{
-    let mut slots = registers.slots;
-    let mut i: usize = 0;
-    while i < 14 {
-        let r = seen[i + 1];
-        slots[i] = r;
-        i += 1;
-    }
-    Registers { slots }
-}
-
-// The end of the stream, at place `at`.
-fn finish(registers: Registers, seen: [Register; 15], at: usize) -> Loaded
-    requires { ⌜ seen ≡ slotsOf (seenIn seen) ⌝ }
-    ensures { λ r. ⌜ r ≡ loadedOf (finished (seenIn seen) at) registers ⌝ }
-{
-    let status = seen[registers::STATUS_ROW];
+    let status = slots[registers::STATUS_ROW - 1];
     if status.set {
         return Loaded {
             verdict: Verdict::Pass,
-            registers: replaced(registers, seen),
+            registers: Registers { slots },
         };
     }
     Loaded {
@@ -208,18 +181,20 @@ fn finish(registers: Registers, seen: [Register; 15], at: usize) -> Loaded
     }
 }
 
-// Each part in order. Nothing of `registers` changes before the last check has passed.
+// Each part in order: `slots` has the registers that parts named, and `offered` is whether one named offered features, which are not kept.
+// Nothing of `registers` changes before the last check has passed. The slots are read and set in place, since a call would copy them all.
 fn load_parts(registers: Registers, s: &[u8]) -> Loaded
     ensures { λ r. ⌜ r ≡ loadedOf (fromStart (now (s .entry))) registers ⌝ }
 {
     let none = registers::unset();
-    let mut seen = [none; 15];
+    let mut slots = [none; 14];
+    let mut offered = false;
     let mut at: usize = 0;
     loop {
         let step = step_at(s, at);
         match step {
             Step::End => {
-                return finish(registers, seen, at);
+                return finish(registers, slots, at);
             }
             Step::Refused(code, place) => {
                 return Loaded {
@@ -234,7 +209,15 @@ fn load_parts(registers: Registers, s: &[u8]) -> Loaded
                 next,
             } => {
                 let v = value_to(s, at, next);
-                let verdict = check_part(seen, kind as u64, flags, selector, v);
+                let row = registers::row_of(kind as u64, selector);
+                let mut twice = false;
+                if row == 0 {
+                    twice = offered;
+                } else if row < registers::ROWS {
+                    let r = slots[row - 1];
+                    twice = r.set;
+                }
+                let verdict = check_part(row, twice, kind as u64, flags, selector, v);
                 match verdict {
                     Verdict::Fail(code, _) => {
                         return Loaded {
@@ -243,8 +226,12 @@ fn load_parts(registers: Registers, s: &[u8]) -> Loaded
                         };
                     }
                     Verdict::Pass => {
-                        let taken = take_part(seen, kind as u64, selector, v);
-                        seen = taken;
+                        if row == 0 {
+                            offered = true;
+                        } else if row < registers::ROWS {
+                            let r = registers::holding(v);
+                            slots[row - 1] = r;
+                        }
                         at = next;
                     }
                 }
@@ -289,18 +276,20 @@ fn put_part(buf: &mut [u8], at: usize, row: usize, r: Register)
     wire::copy(buf, at + HEADER_SIZE, &bytes, 0, size);
 }
 
-// How many bytes saving writes.
+// How many bytes saving writes. Offered features are always among them; the slots are read in place, since a call for each row would
+// copy them all.
 fn saved_length(registers: Registers) -> usize
     ensures { λ r. ⌜ r ≡ length (saved (fileOf registers)) ⌝ }
 {
-    let mut n: usize = 0;
-    let mut i: usize = 0;
-    while i < registers::ROWS {
-        let r = registers::current(registers, i);
+    let slots = registers.slots;
+    let mut n: usize = HEADER_SIZE + registers::size_of(0);
+    let mut row: usize = 1;
+    while row < registers::ROWS {
+        let r = registers::whole(slots[row - 1]);
         if r.set {
-            n = n + HEADER_SIZE + registers::size_of(i);
+            n = n + HEADER_SIZE + registers::size_of(row);
         }
-        i += 1;
+        row += 1;
     }
     n
 }
@@ -324,15 +313,18 @@ pub fn save(registers: Registers, buf: &mut [u8]) -> usize
     requires { ⌜ length (saved (fileOf registers)) ≤ length (now buf) ⌝ }
     ensures { λ r. ⌜ (now (buf .exit) ≡ sets (now (buf .entry)) 0 (saved (fileOf registers))) × (r ≡ length (saved (fileOf registers))) ⌝ }
 {
-    let mut at: usize = 0;
-    let mut i: usize = 0;
-    while i < registers::ROWS {
-        let r = registers::current(registers, i);
+    let slots = registers.slots;
+    let features = registers::offered();
+    put_part(buf, 0, 0, features);
+    let mut at: usize = HEADER_SIZE + registers::size_of(0);
+    let mut row: usize = 1;
+    while row < registers::ROWS {
+        let r = registers::whole(slots[row - 1]);
         if r.set {
-            put_part(buf, at, i, r);
-            at = at + HEADER_SIZE + registers::size_of(i);
+            put_part(buf, at, row, r);
+            at = at + HEADER_SIZE + registers::size_of(row);
         }
-        i += 1;
+        row += 1;
     }
     at
 }

@@ -2,7 +2,7 @@
 use Prim.Native.Nat.{ℕ, zero, suc, _+_, _-_, _^_, _≤_, _<_}
 use native.Mathlib.Numerals.{add-one}
 use native.Mathlib.Omega.{arith}
-use mathlib.Core.Path.{_≡_, refl, sym, _∙_}
+use mathlib.Core.Path.{_≡_, refl, sym, _∙_, ap}
 use mathlib.Core.Bool.{Bool, true, false, false≢true}
 use mathlib.Core.List.{map}
 use lib.ListN.{getD, List·getD-map}
@@ -10,7 +10,7 @@ use lib.Dec.{eqb, ltb, leb}
 use borrow.Author.Tests.{eq-eqb, ne-eqb, eqb-true, leb-true, ltb-true, le-ltb}
 use Rattle.answer.specs.Tests.{_and_, _or_, pick}
 use Rattle.answer.proofs.Tests.{and-true, or-made, below, below-at}
-use Rattle.registers.specs.Rows.{Row, rows, noRow, rowCount, OfferedFeatures, DriverFeatures, QueueConfig, NotifyConfig, kindOf, selectorOf, sizeOf, rowFrom, rowOf, selects}
+use Rattle.registers.specs.Rows.{Row, rows, noRow, rowCount, OfferedFeatures, DriverFeatures, QueueConfig, NotifyConfig, kindOf, selectorOf, sizeOf, rowFrom, rowOf, selects, listed}
 
 -- A column of the table: a list that computes to it has at each place what the row there has.
 pub column : (f : Row → ℕ) (i : ℕ) → getD (map f rows) i (f noRow) ≡ f (getD rows i noRow)
@@ -94,6 +94,11 @@ found kind selector i (suc n) h = go (eqb (kindOf i) kind and eqb (selectorOf i)
 pub row-kind : (kind selector : ℕ) → rowOf kind selector < rowCount → kindOf (rowOf kind selector) ≡ kind
 unfolding rowOf
 row-kind kind selector h = found kind selector 0 rowCount h .0
+
+-- and that type is listed
+pub row-listed : (kind selector : ℕ) → rowOf kind selector < rowCount → listed kind ≡ true
+unfolding listed kindOf below _and_
+row-listed kind selector h = ap listed (sym (row-kind kind selector h)) ∙ below-at (λ i. listed (kindOf i)) rowCount refl (rowOf kind selector) h
 
 pub selected : (kind selector : ℕ) → selects kind selector ≡ true → rowOf kind selector < rowCount
 unfolding selects

@@ -248,7 +248,7 @@ pub fn holding(v: &[u8]) -> Register
 }
 
 // What the row of offered features shows.
-fn offered() -> Register
+pub fn offered() -> Register
     ensures { λ r. ⌜ r ≡ registerOf (some (bytesOf 8 offeredBits)) ⌝ }
 {
     let mut bytes = [0u8; 32];
@@ -257,7 +257,7 @@ fn offered() -> Register
 }
 
 // The same register: its bytes are 32, as its type says, which a proof learns from this contract.
-fn whole(r: Register) -> Register
+pub fn whole(r: Register) -> Register
     ensures { λ x. ⌜ (x ≡ r) × (length (r .bytes) ≡ 32) ⌝ }
 {
     r

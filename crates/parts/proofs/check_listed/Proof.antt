@@ -3,7 +3,6 @@ use mathlib.Core.Path.{_∙_}
 use borrow.Author.Tests.{eq-eqb, ne-eqb, lt-ltb, le-ltb}
 use Rattle.answer.specs.Checks.{_then_, _unless_}
 use Rattle.registers.specs.Rows.{selects}
-use Rattle.registers.proofs.File.{set-at}
 use Rattle.parts.specs.Load.{listedChecks}
 use borrow.Author.Needs.{needs}
 use Rattle.parts.proofs.check_listed.Statement.{statement}
@@ -23,31 +22,22 @@ returns-2 : tie.Need-returns-2
 unfolding listedChecks _then_ _unless_
 returns-2 c = rw (← c .before .before .before .flags-of .ensures, eq-eqb _ _ (c .before .before .if1 .left), ← c .before .selector-limit .ensures, le-ltb _ _ (c .if2 .taken))
 
-row-of-requires : tie.Need-row-of-requires
-row-of-requires c κs = search needs
-
 returns-3 : tie.Need-returns-3
 unfolding listedChecks _then_ _unless_ selects
 returns-3 c =
-    let l = c .before .before .before in
-    rw (← l .before .before .flags-of .ensures, eq-eqb _ _ (l .before .if1 .left), ← l .selector-limit .ensures, lt-ltb _ _ (c .before .before .if2 .left), ← c .before .row-of .ensures, le-ltb _ _ (c .if3 .taken))
-
-mul-r : tie.Need-mul-r
-mul-r c = search needs
-
-array-copy-out-r : tie.Need-array-copy-out-r
-array-copy-out-r c = search needs
+    let l = c .before .before in
+    rw (← l .before .before .flags-of .ensures, eq-eqb _ _ (l .before .if1 .left), ← l .selector-limit .ensures, lt-ltb _ _ (c .before .if2 .left), ← l .before .before .before .before .pre, le-ltb _ _ (c .if3 .taken))
 
 check-value-requires : tie.Need-check-value-requires
-check-value-requires c κs = c .before .if3 .left
+check-value-requires c κs = c .if3 .left
 
 returns-4 : tie.Need-returns-4
 unfolding listedChecks _then_ _unless_ selects
 returns-4 c =
-    let e = c .before .before in
-    let l = e .before .before .before in
+    let e = c .before in
+    let l = e .before .before in
     c .check-value .ensures
-    ∙ rw (← l .before .before .flags-of .ensures, eq-eqb _ _ (l .before .if1 .left), ← l .selector-limit .ensures, lt-ltb _ _ (e .before .before .if2 .left), ← e .before .row-of .ensures, lt-ltb _ _ (e .if3 .left), set-at)
+    ∙ rw (← l .before .before .flags-of .ensures, eq-eqb _ _ (l .before .if1 .left), ← l .selector-limit .ensures, lt-ltb _ _ (e .before .if2 .left), ← l .before .before .before .before .pre, lt-ltb _ _ (e .if3 .left))
 
 pub check-listed-spec : {M : Type 1} → statement M
 check-listed-spec =
@@ -57,9 +47,6 @@ check-listed-spec =
     returns
     selector-limit-requires
     returns-2
-    row-of-requires
     returns-3
-    mul-r
-    array-copy-out-r
     check-value-requires
     returns-4)

@@ -1,22 +1,26 @@
 -- `parts::load_parts` meets its contract: the parts from `at` on decide, over what is seen.
-use Prim.Native.Nat.{ℕ, _-_}
+use Prim.Native.Nat.{ℕ, _-_, _<_}
 use native.Mathlib.Omega.{arith}
 use mathlib.Core.Path.{_≡_, sym, _∙_, ap}
-use lib.ListN.{length}
+use mathlib.Core.Logic.{⊎-elim}
+use lib.ListN.{length, getD}
+use Rattle.registers.specs.Rows.{rowOf}
+use Rattle.registers.proofs.Rows.{size-most}
+use Rattle.registers.proofs.File.{absent}
 use Rattle.parts.specs.Step.{stepAt, valueTo}
-use Rattle.parts.specs.Load.{partChecks, seenIn, loadedOf}
+use Rattle.parts.specs.Load.{partChecks, named, seenIn, loadedOf}
 use Rattle.parts.specs.declared.Step.the-variants.{Part}
 use Rattle.parts.proofs.Steps.{step-says}
-use Rattle.parts.proofs.Loading.{Loop, agree, loop-start, loop-end, loop-refused, loop-fault, loop-more, part-placeable}
+use Rattle.parts.proofs.Loading.{Loop, agree, loop-start, loop-end, loop-refused, loop-fault, loop-offered, loop-kept, loop-skipped, part-size, named-offered, named-kept, named-none}
 use borrow.Author.Needs.{needs}
 use Rattle.parts.proofs.load_parts.Statement.{statement}
 use Rattle.parts.proofs.load_parts.Tie as tie
 
 abbrev Inv-loop : tie.InvT-loop
-Inv-loop registers s seen₀ at₀ seen at = Loop s at seen
+Inv-loop registers s slots₀ offered₀ at₀ slots offered at = Loop s at slots offered
 
 abbrev μ-loop : tie.MeasureT-loop
-μ-loop registers s seen₀ at₀ seen at = length s - at
+μ-loop registers s slots₀ offered₀ at₀ slots offered at = length s - at
 
 unset-requires : tie.Need-unset-requires Inv-loop μ-loop
 unset-requires c κs = search needs
@@ -36,7 +40,7 @@ finish-requires c κs = c .before .before .before .loop .inv .canonical
 returns : tie.Need-returns Inv-loop μ-loop
 returns c =
     let l = c .before .before .before .before in
-    c .finish .ensures ∙ agree _ _ _ (loop-end _ _ _ (l .loop .inv) (sym (c .before .enum-told .given .1) ∙ c .before .before .before .step-at .ensures))
+    c .finish .ensures (l .loop .inv .features) ∙ agree _ _ _ (loop-end _ _ _ _ (l .loop .inv) (sym (c .before .enum-told .given .1) ∙ c .before .before .before .step-at .ensures))
 
 enum-known-step : tie.Need-enum-known-step Inv-loop μ-loop
 enum-known-step c = search needs
@@ -45,7 +49,7 @@ returns-2 : tie.Need-returns-2 Inv-loop μ-loop
 unfolding loadedOf
 returns-2 c =
     let l = c .before .before .before .before in
-    agree _ _ _ (loop-refused _ _ _ (l .loop .inv) _ _ (sym (c .before .step .given .1) ∙ c .before .before .before .step-at .ensures))
+    agree _ _ _ (loop-refused _ _ _ _ (l .loop .inv) _ _ (sym (c .before .step .given .1) ∙ c .before .before .before .step-at .ensures))
 
 enum-known-step-2 : tie.Need-enum-known-step-2 Inv-loop μ-loop
 enum-known-step-2 c = search needs
@@ -68,24 +72,55 @@ part : (c : tie.After-step2 Inv-loop μ-loop)
     Part (kind c) (flags c) (selector c) (next c) ≡ stepAt (l .before .before .before .args .s .now) (l .loop .at)
 part c = sym (c .step2 .given .1) ∙ c .before .before .step-at .ensures
 
--- what the checks of its value came to
-checked : (c : tie.After-check-part Inv-loop μ-loop)
-    → let p = c .before .before .before in
-    let l = p .before .before .before in
-    c .check-part .result ≡ partChecks (seenIn (l .loop .seen)) (kind p) (flags p) (selector p) (valueTo (l .before .before .before .args .s .now) (l .loop .at) (next p))
-checked c =
-    let p = c .before .before .before in
-    let l = p .before .before .before in
-    c .check-part .ensures ∙ ap (partChecks (seenIn (l .loop .seen)) (kind p) (flags p) (selector p)) (c .before .value-to .ensures)
-
 value-to-requires : tie.Need-value-to-requires Inv-loop μ-loop
 value-to-requires c κs = step-says _ _ _ _ _ _ (part (c .before))
+
+cast-row-of : tie.Need-cast-row-of Inv-loop μ-loop
+cast-row-of c = search needs
+
+row-of-requires : tie.Need-row-of-requires Inv-loop μ-loop
+row-of-requires c κs = search needs
+
+sub-r : tie.Need-sub-r Inv-loop μ-loop
+sub-r c = search needs
+
+mul-r : tie.Need-mul-r Inv-loop μ-loop
+mul-r c = search needs
+
+array-copy-out-r : tie.Need-array-copy-out-r Inv-loop μ-loop
+array-copy-out-r c = search needs
+
+-- whether the part's row was named before
+known : (c : tie.Joined1 Inv-loop μ-loop)
+    → let p = c .before .before .before .before in
+    let l = p .before .before .before in
+    c .if1 .twice ≡ named (seenIn (l .loop .inv .features) (l .loop .slots)) (kind p) (selector p)
+known c =
+    let p = c .before .before .before .before in
+    let l = p .before .before .before in
+    let e = c .before .row-of .ensures in
+    ⊎-elim (λ w. w .1 ∙ sym (l .loop .inv .flag) ∙ sym (named-offered _ (l .loop .slots) (kind p) (selector p) (sym e ∙ w .0 .taken)))
+    (⊎-elim
+    (λ w. w .3 ∙ ap (λ (i : ℕ). getD (l .loop .slots) (i - 1) absent .set) e ∙ sym (named-kept _ (l .loop .slots) (kind p) (selector p) (omega arith)))
+    (λ w. w .2 ∙ named-none _ (l .loop .slots) (kind p) (selector p) (l .loop .inv .long) (omega arith)))
+    (c .if1 .came)
 
 cast-check-part : tie.Need-cast-check-part Inv-loop μ-loop
 cast-check-part c = search needs
 
 check-part-requires : tie.Need-check-part-requires Inv-loop μ-loop
-check-part-requires c κs = search needs
+check-part-requires c κs = c .before .row-of .ensures
+
+-- what the checks of the part came to
+checked : (c : tie.After-check-part Inv-loop μ-loop)
+    → let j = c .before in
+    let p = j .before .before .before .before in
+    let l = p .before .before .before in
+    c .check-part .result ≡ partChecks (j .if1 .twice) (kind p) (flags p) (selector p) (valueTo (l .before .before .before .args .s .now) (l .loop .at) (next p))
+checked c =
+    let j = c .before in
+    let p = j .before .before .before .before in
+    c .check-part .ensures ∙ ap (partChecks (j .if1 .twice) (kind p) (flags p) (selector p)) (j .before .before .value-to .ensures)
 
 enum-known-verdict : tie.Need-enum-known-verdict Inv-loop μ-loop
 enum-known-verdict c = search needs
@@ -94,33 +129,80 @@ returns-3 : tie.Need-returns-3 Inv-loop μ-loop
 unfolding loadedOf
 returns-3 c =
     let m = c .before .before .before in
-    let p = m .before .before .before in
+    let j = m .before in
+    let p = j .before .before .before .before in
     let l = p .before .before .before in
-    agree _ _ _ (loop-fault _ _ _ (l .loop .inv) _ _ _ _ (part p) _ _ (sym (c .before .verdict .given .1) ∙ checked m))
+    agree _ _ _ (loop-fault _ _ _ _ (l .loop .inv) _ _ _ _ (part p) _ (known j) _ _ (sym (c .before .verdict .given .1) ∙ checked m))
 
 enum-told-2 : tie.Need-enum-told-2 Inv-loop μ-loop
 enum-told-2 c = search needs
 
-cast-take-part : tie.Need-cast-take-part Inv-loop μ-loop
-cast-take-part c = search needs
+holding-requires : tie.Need-holding-requires Inv-loop μ-loop
+holding-requires c κs =
+    let told = c .before .before in
+    let m = told .before .before in
+    let j = m .before in
+    let e = j .before .row-of .ensures in
+    let size = part-size _ _ _ _ _ (sym (m .check-part .ensures) ∙ told .enum-told2 .given .1) (omega arith) in
+    let p = j .before .before .before .before in
+    omega (arith, size-most (rowOf (kind p) (selector p)) (omega arith))
 
-take-part-requires : tie.Need-take-part-requires Inv-loop μ-loop
-take-part-requires c κs =
-    let m = c .before .before in
-    part-placeable _ _ _ _ _ (sym (m .check-part .ensures) ∙ c .enum-told2 .given .1)
+sub-slots : tie.Need-sub-slots Inv-loop μ-loop
+sub-slots c = search needs
+
+mul-slots : tie.Need-mul-slots Inv-loop μ-loop
+mul-slots c = search needs
+
+array-set-from-slots : tie.Need-array-set-from-slots Inv-loop μ-loop
+array-set-from-slots c = search needs
+
+-- the next place lies behind
+nearer : (c : tie.After-step2 Inv-loop μ-loop)
+    → let l = c .before .before .before in
+    length (l .before .before .before .args .s .now) - next c < length (l .before .before .before .args .s .now) - l .loop .at
+nearer c =
+    let says = step-says _ _ _ _ _ _ (part c) in
+    omega arith
 
 loop-less : tie.Need-loop-less Inv-loop μ-loop
-loop-less c =
-    let p = c .before .before .before .before .before .before in
-    let says = step-says _ _ _ _ _ _ (part p) in
-    omega arith
+loop-less c = nearer (c .before .before .before .before .before .before .before .before)
 
 loop-again : tie.Need-loop-again Inv-loop μ-loop
 loop-again c =
-    let m = c .before .before .before in
-    let p = m .before .before .before in
+    let told = c .before in
+    let m = told .before .before in
+    let j = m .before in
+    let p = j .before .before .before .before in
     let l = p .before .before .before in
-    rw (c .take-part .ensures, m .before .value-to .ensures) (loop-more _ _ _ (l .loop .inv) _ _ _ _ (part p) (sym (c .before .enum-told2 .given .1) ∙ checked m))
+    loop-offered _ _ _ _ (l .loop .inv) _ _ _ _ (part p) _ (known j) (sym (told .enum-told2 .given .1) ∙ checked m) (sym (j .before .row-of .ensures) ∙ c .if3 .taken)
+
+loop-less-2 : tie.Need-loop-less-2 Inv-loop μ-loop
+loop-less-2 c = nearer (c .before .before .before .before .before .before .before .before .before .before)
+
+loop-again-2 : tie.Need-loop-again-2 Inv-loop μ-loop
+loop-again-2 c =
+    let h = c .before in
+    let told = h .before .before in
+    let m = told .before .before in
+    let j = m .before in
+    let p = j .before .before .before .before in
+    let l = p .before .before .before in
+    let e = j .before .row-of .ensures in
+    rw (c .holding .ensures, j .before .before .value-to .ensures, e)
+    (loop-kept _ _ _ _ (l .loop .inv) _ _ _ _ (part p) _ (known j) (sym (told .enum-told2 .given .1) ∙ checked m) (omega arith) (omega arith))
+
+loop-less-3 : tie.Need-loop-less-3 Inv-loop μ-loop
+loop-less-3 c = nearer (c .before .before .before .before .before .before .before .before .before)
+
+loop-again-3 : tie.Need-loop-again-3 Inv-loop μ-loop
+loop-again-3 c =
+    let told = c .before .before in
+    let m = told .before .before in
+    let j = m .before in
+    let p = j .before .before .before .before in
+    let l = p .before .before .before in
+    let e = j .before .row-of .ensures in
+    loop-skipped _ _ _ _ (l .loop .inv) _ _ _ _ (part p) _ (known j) (sym (told .enum-told2 .given .1) ∙ checked m) (omega arith)
 
 pub load-parts-spec : {M : Type 1} → statement M
 load-parts-spec =
@@ -138,12 +220,23 @@ load-parts-spec =
     returns-2
     enum-known-step-2
     value-to-requires
+    cast-row-of
+    row-of-requires
+    sub-r
+    mul-r
+    array-copy-out-r
     cast-check-part
     check-part-requires
     enum-known-verdict
     returns-3
     enum-told-2
-    cast-take-part
-    take-part-requires
+    holding-requires
+    sub-slots
+    mul-slots
+    array-set-from-slots
     loop-less
-    loop-again)
+    loop-again
+    loop-less-2
+    loop-again-2
+    loop-less-3
+    loop-again-3)

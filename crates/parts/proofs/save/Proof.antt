@@ -1,58 +1,104 @@
--- `parts::save` meets its contract: the parts of the rows before `i` are written.
+-- `parts::save` meets its contract: the parts of the rows before `row` are written.
 use Prim.Native.Nat.{ℕ, _+_, _-_, _≤_}
 use native.Mathlib.Omega.{arith}
-use mathlib.Core.Path.{_∙_, ap}
+use mathlib.Core.Path.{_≡_, _∙_, ap}
 use mathlib.Core.Logic.{⊎-elim}
-use lib.ListN.{length}
+use lib.ListN.{length, take}
+use lib.Seq.{sets, length-sets}
 use Rattle.registers.specs.Rows.{rowCount, sizeOf}
-use Rattle.registers.specs.File.{fileOf}
-use Rattle.parts.proofs.Saving.{Left, left-start, left-end, left-none, left-room, left-more}
+use Rattle.registers.specs.File.{current, valueIn, fileOf}
+use Rattle.registers.proofs.Rows.{size-most}
+use Rattle.parts.specs.Save.{encoded}
+use Rattle.parts.proofs.Saving.{features, features-whole, features-room, kept-row, Left, left-start, left-all, left-end, left-none, left-room, left-more}
 use borrow.Author.Needs.{needs}
 use Rattle.parts.proofs.save.Statement.{statement}
 use Rattle.parts.proofs.save.Tie as tie
 
 abbrev Inv-loop : tie.InvT-loop
-Inv-loop registers buf₀ at₀ i₀ buf at i = Left (fileOf registers) buf₀ buf at i
+Inv-loop buf₀ slots at₀ row₀ buf at row = Left (fileOf (record { slots = slots })) buf₀ buf at row
 
 abbrev μ-loop : tie.MeasureT-loop
-μ-loop registers buf₀ at₀ i₀ buf at i = rowCount - i
+μ-loop buf₀ slots at₀ row₀ buf at row = rowCount - row
 
-loop-holds : tie.Need-loop-holds Inv-loop μ-loop
-loop-holds c = left-start _ _
-
-current-requires : tie.Need-current-requires Inv-loop μ-loop
-current-requires c κs = search needs
-
--- the part has room in the buffer
-room : (c : tie.Then1 Inv-loop μ-loop)
-    → let l = c .before .before .before in
-    l .loop .at + 16 + sizeOf (l .loop .i) ≤ length (l .before .before .args .buf .now)
-room c =
-    let m = c .before in
-    let l = m .before .before in
-    let e = m .current .ensures in
-    let fits = left-room _ _ _ _ _ (l .loop .inv) (m .before .loop-test .taken) (m .current .result) (e .0) (e .1) (c .if1 .taken) in
-    let given = l .before .before .pre in
-    omega arith
+offered-requires : tie.Need-offered-requires Inv-loop μ-loop
+offered-requires c κs = search needs
 
 put-part-requires : tie.Need-put-part-requires Inv-loop μ-loop
 put-part-requires c κs =
-    let m = c .before .before in
-    let l = m .before .before in
-    let same = l .loop .inv .same in
-    (m .before .loop-test .taken, m .current .ensures .1, omega (arith, room (c .before)))
-
-add-at : tie.Need-add-at Inv-loop μ-loop
-add-at c = omega (arith, room (c .before .before .before .before))
+    let given = c .before .before .before .before .pre in
+    (omega arith, rw (c .before .offered .ensures) features-whole, omega (arith, features-room (fileOf (c .before .before .before .before .args .registers)), given))
 
 size-of-requires : tie.Need-size-of-requires Inv-loop μ-loop
 size-of-requires c κs = search needs
 
-add-at-2 : tie.Need-add-at-2 Inv-loop μ-loop
-add-at-2 c = omega (arith, c .size-of .ensures, room (c .before .before .before .before .before))
+add-at : tie.Need-add-at Inv-loop μ-loop
+add-at c = omega (arith, c .size-of .ensures, size-most 0 (omega arith))
 
-add-i : tie.Need-add-i Inv-loop μ-loop
-add-i c = search needs
+loop-holds : tie.Need-loop-holds Inv-loop μ-loop
+loop-holds c = rw (c .size-of .ensures) (left-start _ _)
+
+sub-whole : tie.Need-sub-whole Inv-loop μ-loop
+sub-whole c = omega (arith, c .before .loop .inv .some)
+
+mul-whole : tie.Need-mul-whole Inv-loop μ-loop
+mul-whole c = search needs
+
+array-copy-out-whole : tie.Need-array-copy-out-whole Inv-loop μ-loop
+array-copy-out-whole c = search needs
+
+whole-requires : tie.Need-whole-requires Inv-loop μ-loop
+whole-requires c κs = search needs
+
+-- the buffer that has the part of offered features
+first : (c : tie.After-put-part Inv-loop μ-loop)
+    → let a = c .before .before .before .before .before .args in
+    c .put-part .last .0 ≡ sets (a .buf .now) 0 (encoded 0 (take (sizeOf 0) (features .bytes)))
+first c = c .put-part .ensures ∙ rw (c .before .before .offered .ensures)
+
+long : (c : tie.After-put-part Inv-loop μ-loop) → length (c .put-part .last .0) ≡ length (c .before .before .before .before .before .args .buf .now)
+long c =
+    let a = c .before .before .before .before .before .args in
+    ap length (first c) ∙ length-sets (a .buf .now) 0 (encoded 0 (take (sizeOf 0) (features .bytes)))
+
+-- the register that is read
+kept : (c : tie.After-whole Inv-loop μ-loop)
+    → let l = c .before .before .before in
+    let a = l .before .before .before .before .before .before .before .before .before .args in
+    (valueIn (l .loop .row) (c .whole .result) ≡ current (fileOf (a .registers)) (l .loop .row)) × (length (c .whole .result .bytes) ≡ 32)
+kept c =
+    let l = c .before .before .before in
+    let a = l .before .before .before .before .before .before .before .before .before .args in
+    kept-row (a .registers .slots) (l .loop .row) (l .loop .inv .some) (c .whole .result) (c .whole .ensures)
+
+-- the part of a row has room in the buffer
+room : (c : tie.Then1 Inv-loop μ-loop)
+    → let l = c .before .before .before .before in
+    l .loop .at + 16 + sizeOf (l .loop .row) ≤ length (l .loop .buf)
+room c =
+    let m = c .before in
+    let l = m .before .before .before in
+    let e = kept m in
+    let fits = left-room _ _ _ _ _ (l .loop .inv) (m .before .before .loop-test .taken) (m .whole .result) (e .0) (e .1) (c .if1 .taken) in
+    let p = l .before .before .before .before in
+    let given = p .before .before .before .before .before .pre in
+    omega (arith, l .loop .inv .same, long p)
+
+put-part-requires-2 : tie.Need-put-part-requires-2 Inv-loop μ-loop
+put-part-requires-2 c κs =
+    let m = c .before .before in
+    (m .before .before .loop-test .taken, kept m .1, room (c .before))
+
+add-at-2 : tie.Need-add-at-2 Inv-loop μ-loop
+add-at-2 c = omega (arith, room (c .before .before .before .before))
+
+size-of-requires-2 : tie.Need-size-of-requires-2 Inv-loop μ-loop
+size-of-requires-2 c κs = search needs
+
+add-at-3 : tie.Need-add-at-3 Inv-loop μ-loop
+add-at-3 c = omega (arith, c .size-of2 .ensures, room (c .before .before .before .before .before))
+
+add-row : tie.Need-add-row Inv-loop μ-loop
+add-row c = search needs
 
 loop-less : tie.Need-loop-less Inv-loop μ-loop
 loop-less c = search needs
@@ -60,18 +106,26 @@ loop-less c = search needs
 loop-again : tie.Need-loop-again Inv-loop μ-loop
 loop-again c =
     let m = c .before in
-    let l = m .before .before in
-    let e = m .current .ensures in
+    let l = m .before .before .before in
+    let e = kept m in
+    let here = m .before .before .loop-test .taken in
     ⊎-elim
-    (λ w. left-more _ _ _ _ _ (l .loop .inv) (m .before .loop-test .taken) (m .current .result) (e .0) (e .1) (w .0 .taken) _ _ (w .6 ∙ w .2 .ensures) (w .7 ∙ ap (λ (z : ℕ). l .loop .at + 16 + z) (w .5 .ensures)))
-    (λ w. left-none _ _ _ _ _ (l .loop .inv) (m .before .loop-test .taken) (m .current .result) (e .0) (w .0 .left) _ _ (w .1) (w .2))
+    (λ w. left-more _ _ _ _ _ (l .loop .inv) here (m .whole .result) (e .0) (e .1) (w .0 .taken) _ _ (w .6 ∙ w .2 .ensures) (w .7 ∙ ap (λ (z : ℕ). l .loop .at + 16 + z) (w .5 .ensures)))
+    (λ w. left-none _ _ _ _ _ (l .loop .inv) here (m .whole .result) (e .0) (w .0 .left) _ _ (w .1) (w .2))
     (c .if1 .came)
 
 same-length : tie.Need-same-length Inv-loop μ-loop
-same-length c = c .before .loop .inv .same
+same-length c =
+    let l = c .before in
+    let p = l .before .before .before .before in
+    l .loop .inv .same ∙ long p
 
 returns : tie.Need-returns Inv-loop μ-loop
-returns c = left-end _ _ _ _ _ (c .before .loop .inv) (c .loop-test .left)
+returns c =
+    let l = c .before in
+    let p = l .before .before .before .before in
+    let e = left-end _ _ _ _ _ (l .loop .inv) (c .loop-test .left) in
+    (e .0 ∙ rw (first p) (left-all _ _), e .1)
 
 pub save-spec : {M : Type 1} → statement M
 save-spec =
@@ -79,13 +133,20 @@ save-spec =
     (tie.spec
     Inv-loop
     μ-loop
-    loop-holds
-    current-requires
+    offered-requires
     put-part-requires
-    add-at
     size-of-requires
+    add-at
+    loop-holds
+    sub-whole
+    mul-whole
+    array-copy-out-whole
+    whole-requires
+    put-part-requires-2
     add-at-2
-    add-i
+    size-of-requires-2
+    add-at-3
+    add-row
     loop-less
     loop-again
     same-length
