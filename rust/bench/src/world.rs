@@ -1,5 +1,7 @@
 //! What the measured calls are made on.
 
+use std::hint::black_box;
+
 use glint_boundary as emulator;
 use glint_boundary::{Mapping, State};
 
@@ -18,9 +20,11 @@ pub struct Aligned {
 }
 
 impl Aligned {
-    /// Every byte is written here once, so that no page is first touched while time is taken.
+    /// Every byte is written here once, so that no page is first touched while time is taken. The
+    /// byte is hidden: zeros that are only asked for are one shared page until they are written.
     fn filled(length: usize, byte: u8) -> Aligned {
-        let bytes = vec![byte; length + PAGE];
+        let mut bytes = vec![0; length + PAGE];
+        bytes.fill(black_box(byte));
         let start = bytes.as_ptr().align_offset(PAGE);
         Aligned {
             bytes,
