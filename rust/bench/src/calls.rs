@@ -1,5 +1,6 @@
 //! The calls that are measured: each as the emulator's, as the plain program's, and as `memcpy`
-//! where it moves bytes. All take their arguments from the world, so that the compiler knows none.
+//! and `memset` where it moves bytes. All take their arguments from the world, so that the
+//! compiler knows none.
 
 use std::hint::black_box;
 
@@ -9,22 +10,47 @@ use crate::plain;
 use crate::world::World;
 
 /// Whether a call was accepted.
-type Accepted = bool;
-
-pub struct Call {
-    pub name: &'static str,
-    pub emulator: Program,
-    pub plain: Program,
-    pub memcpy: Option<Program>,
-}
+pub type Accepted = bool;
 
 /// Makes a call so many times, and says whether the last one was accepted.
 pub type Program = fn(&mut World, usize) -> Accepted;
 
+/// The same for a program that has something of its own.
+pub type Repeated = Box<dyn FnMut(&mut World, usize) -> Accepted>;
+
+#[derive(Clone, Copy)]
+pub struct Call {
+    pub name: &'static str,
+    pub emulator: Program,
+    pub plain: Program,
+    /// Which one it is of those that move bytes.
+    pub moves: Option<Move>,
+}
+
+/// The calls that move bytes.
+#[derive(Clone, Copy, Debug, PartialEq, Eq)]
+pub enum Move {
+    CardRead,
+    CardWrite,
+    HostLoad,
+    HostStore,
+}
+
+impl Move {
+    /// `memcpy` of as many bytes in one piece, which checks nothing. A store sets as many marks
+    /// besides, so it has one with their `memset` too.
+    pub fn copies(self) -> &'static [(&'static str, Program)] {
+        match self {
+            Move::CardRead | Move::HostLoad => LOADS,
+            Move::CardWrite | Move::HostStore => STORES,
+        }
+    }
+}
+
 /// A program that repeats one call, which is compiled into its loop.
 macro_rules! repeat {
     (|$world:ident| $call:expr) => {
-        |world: &mut World, count: usize| -> Accepted {
+        move |world: &mut World, count: usize| -> Accepted {
             let mut accepted = false;
             for _ in 0..count {
                 let $world = black_box(&mut *world);
@@ -34,102 +60,79 @@ macro_rules! repeat {
         }
     };
 }
+pub(crate) use repeat;
 
-pub const CARD_READ: Call = Call {
-    name: "card-read",
-    emulator: repeat!(|w| !emulator::device_read(
-        &w.state,
-        w.memory.get(),
-        w.marks.get(),
-        w.device,
-        &mut w.buffer.get_mut()[..w.size]
-    )
-    .refused),
-    plain: repeat!(|w| plain::card_read(
-        &w.state,
-        w.memory.get(),
-        w.marks.get(),
-        w.device,
-        &mut w.buffer.get_mut()[..w.size]
-    )
-    .is_ok()),
-    memcpy: Some(repeat!(|w| load(w))),
-};
+/// A call that leaves the state alone, for which the emulator's function and the plain program's
+/// take the same arguments.
+macro_rules! call {
+    (
+        $name:literal, $moves:expr, $emulator:ident, $plain:ident,
+        |$w:ident| ($($argument:expr),*)
+    ) => {
+        Call {
+            name: $name,
+            emulator: repeat!(|$w| !emulator::$emulator($($argument),*).refused),
+            plain: repeat!(|$w| plain::$plain($($argument),*).is_ok()),
+            moves: $moves,
+        }
+    };
+}
 
-pub const CARD_WRITE: Call = Call {
-    name: "card-write",
-    emulator: repeat!(|w| !emulator::device_write(
-        &w.state,
-        w.memory.get_mut(),
-        w.marks.get_mut(),
-        w.device,
-        &w.buffer.get()[..w.size]
-    )
-    .refused),
-    plain: repeat!(|w| plain::card_write(
-        &w.state,
-        w.memory.get_mut(),
-        w.marks.get_mut(),
-        w.device,
-        &w.buffer.get()[..w.size]
-    )
-    .is_ok()),
-    memcpy: Some(repeat!(|w| store(w))),
-};
+/// A move into the buffer, from the place in a field of the world.
+macro_rules! load {
+    ($name:literal, $kind:ident, $emulator:ident, $plain:ident, $place:ident) => {
+        call!($name, Some(Move::$kind), $emulator, $plain, |w| (
+            &w.state,
+            w.memory.get(),
+            w.marks.get(),
+            w.$place,
+            &mut w.buffer.get_mut()[..w.size]
+        ))
+    };
+}
 
-pub const HOST_LOAD: Call = Call {
-    name: "host-load",
-    emulator: repeat!(|w| !emulator::host_read(
-        &w.state,
-        w.memory.get(),
-        w.marks.get(),
-        w.address,
-        &mut w.buffer.get_mut()[..w.size]
-    )
-    .refused),
-    plain: repeat!(|w| plain::host_load(
-        &w.state,
-        w.memory.get(),
-        w.marks.get(),
-        w.address,
-        &mut w.buffer.get_mut()[..w.size]
-    )
-    .is_ok()),
-    memcpy: Some(repeat!(|w| load(w))),
-};
+/// A move out of the buffer, to such a place.
+macro_rules! store {
+    ($name:literal, $kind:ident, $emulator:ident, $plain:ident, $place:ident) => {
+        call!($name, Some(Move::$kind), $emulator, $plain, |w| (
+            &w.state,
+            w.memory.get_mut(),
+            w.marks.get_mut(),
+            w.$place,
+            &w.buffer.get()[..w.size]
+        ))
+    };
+}
 
-pub const HOST_STORE: Call = Call {
-    name: "host-store",
-    emulator: repeat!(|w| !emulator::host_write(
-        &w.state,
-        w.memory.get_mut(),
-        w.marks.get_mut(),
-        w.address,
-        &w.buffer.get()[..w.size]
-    )
-    .refused),
-    plain: repeat!(|w| plain::host_store(
-        &w.state,
-        w.memory.get_mut(),
-        w.marks.get_mut(),
-        w.address,
-        &w.buffer.get()[..w.size]
-    )
-    .is_ok()),
-    memcpy: Some(repeat!(|w| store(w))),
-};
+pub const CARD_READ: Call = load!("card-read", CardRead, device_read, card_read, device);
+pub const CARD_WRITE: Call = store!("card-write", CardWrite, device_write, card_write, device);
+pub const HOST_LOAD: Call = load!("host-load", HostLoad, host_read, host_load, address);
+pub const HOST_STORE: Call = store!("host-store", HostStore, host_write, host_store, address);
+
+const LOADS: &[(&str, Program)] = &[("memcpy", repeat!(|w| copy_out(w)))];
+const STORES: &[(&str, Program)] = &[
+    ("memcpy", repeat!(|w| copy_in(w))),
+    ("memcpy+memset", repeat!(|w| copy_in(w) & mark(w))),
+];
 
 #[inline(always)]
-fn load(w: &mut World) -> Accepted {
+fn copy_out(w: &mut World) -> Accepted {
     let place = w.address as usize;
     w.buffer.get_mut()[..w.size].copy_from_slice(&w.memory.get()[place..place + w.size]);
     true
 }
 
 #[inline(always)]
-fn store(w: &mut World) -> Accepted {
+fn copy_in(w: &mut World) -> Accepted {
     let place = w.address as usize;
     w.memory.get_mut()[place..place + w.size].copy_from_slice(&w.buffer.get()[..w.size]);
+    true
+}
+
+#[inline(always)]
+fn mark(w: &mut World) -> Accepted {
+    let place = w.address as usize;
+    w.marks.get_mut()[place..place + w.size].fill(1);
     true
 }
 
@@ -137,48 +140,39 @@ pub const LOOK_UP: Call = Call {
     name: "look-up",
     emulator: repeat!(|w| !emulator::look_up(&w.state, w.device).outcome.refused),
     plain: repeat!(|w| plain::look_up(&w.state, w.device).is_ok()),
-    memcpy: None,
+    moves: None,
 };
 
-/// The caller keeps the state that comes back. Counting the new mapping out again undoes the map,
-/// which puts it behind all others.
+/// The caller keeps the state that comes back. The new mapping lies behind all others.
 pub const MAP: Call = Call {
     name: "map",
-    emulator: repeat!(|w| {
-        let accepted = emulator_request(w, 113);
-        w.state.table.count = w.held;
-        accepted
-    }),
-    plain: repeat!(|w| {
-        let accepted = plain_request(w, 113);
-        w.state.table.count = w.held;
-        accepted
-    }),
-    memcpy: None,
+    emulator: repeat!(|w| undone(emulator_request, w, 113)),
+    plain: repeat!(|w| undone(plain_request, w, 113)),
+    moves: None,
 };
 
-/// The last mapping goes; counting it in again undoes that.
+/// The last mapping goes.
 pub const UNMAP: Call = Call {
     name: "unmap",
-    emulator: repeat!(|w| {
-        let accepted = emulator_request(w, 114);
-        w.state.table.count = w.held;
-        accepted
-    }),
-    plain: repeat!(|w| {
-        let accepted = plain_request(w, 114);
-        w.state.table.count = w.held;
-        accepted
-    }),
-    memcpy: None,
+    emulator: repeat!(|w| undone(emulator_request, w, 114)),
+    plain: repeat!(|w| undone(plain_request, w, 114)),
+    moves: None,
 };
+
+/// Counting the last mapping out again undoes a map, counting it in again an unmap.
+#[inline(always)]
+fn undone(request: impl Fn(&mut World, u32) -> Accepted, w: &mut World, number: u32) -> Accepted {
+    let accepted = request(w, number);
+    w.state.table.count = w.held;
+    accepted
+}
 
 /// Both in turn.
 pub const MAP_UNMAP: Call = Call {
     name: "map-unmap",
     emulator: repeat!(|w| emulator_request(w, 113) & emulator_request(w, 114)),
     plain: repeat!(|w| plain_request(w, 113) & plain_request(w, 114)),
-    memcpy: None,
+    moves: None,
 };
 
 #[inline(always)]
@@ -216,14 +210,10 @@ pub const LOAD: Call = Call {
         !kept.outcome.refused
     }),
     plain: repeat!(|w| plain::load_parts(&mut w.state, &w.buffer.get()[..w.size]).is_ok()),
-    memcpy: None,
+    moves: None,
 };
 
-pub const SAVE: Call = Call {
-    name: "save",
-    emulator: repeat!(
-        |w| !emulator::save_parts(&w.state, &mut w.buffer.get_mut()[..w.size]).refused
-    ),
-    plain: repeat!(|w| plain::save_parts(&w.state, &mut w.buffer.get_mut()[..w.size]).is_ok()),
-    memcpy: None,
-};
+pub const SAVE: Call = call!("save", None, save_parts, save_parts, |w| (
+    &w.state,
+    &mut w.buffer.get_mut()[..w.size]
+));
