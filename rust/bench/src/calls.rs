@@ -5,6 +5,7 @@
 use std::hint::black_box;
 
 use glint_boundary as emulator;
+use glint_boundary::State;
 
 use crate::plain;
 use crate::world::World;
@@ -23,6 +24,9 @@ pub struct Call {
     pub name: &'static str,
     pub emulator: Program,
     pub plain: Program,
+    /// The plain program's call behind the emulator's interface: the state goes in by value and, where
+    /// the call may change it, comes back by value.
+    pub by_value: Option<Program>,
     /// Which one it is of those that move bytes.
     pub moves: Option<Move>,
 }
@@ -73,6 +77,7 @@ macro_rules! call {
             name: $name,
             emulator: repeat!(|$w| !emulator::$emulator($($argument),*).refused),
             plain: repeat!(|$w| plain::$plain($($argument),*).is_ok()),
+            by_value: None,
             moves: $moves,
         }
     };
@@ -140,6 +145,7 @@ pub const LOOK_UP: Call = Call {
     name: "look-up",
     emulator: repeat!(|w| !emulator::look_up(&w.state, w.device).outcome.refused),
     plain: repeat!(|w| plain::look_up(&w.state, w.device).is_ok()),
+    by_value: None,
     moves: None,
 };
 
@@ -148,6 +154,7 @@ pub const MAP: Call = Call {
     name: "map",
     emulator: repeat!(|w| undone(emulator_request, w, 113)),
     plain: repeat!(|w| undone(plain_request, w, 113)),
+    by_value: Some(repeat!(|w| undone(by_value_request, w, 113))),
     moves: None,
 };
 
@@ -156,6 +163,7 @@ pub const UNMAP: Call = Call {
     name: "unmap",
     emulator: repeat!(|w| undone(emulator_request, w, 114)),
     plain: repeat!(|w| undone(plain_request, w, 114)),
+    by_value: Some(repeat!(|w| undone(by_value_request, w, 114))),
     moves: None,
 };
 
@@ -172,33 +180,52 @@ pub const MAP_UNMAP: Call = Call {
     name: "map-unmap",
     emulator: repeat!(|w| emulator_request(w, 113) & emulator_request(w, 114)),
     plain: repeat!(|w| plain_request(w, 113) & plain_request(w, 114)),
+    by_value: Some(repeat!(
+        |w| by_value_request(w, 113) & by_value_request(w, 114)
+    )),
     moves: None,
 };
 
 #[inline(always)]
 fn emulator_request(w: &mut World, number: u32) -> Accepted {
-    let (mut map, mut unmap) = (w.map, w.unmap);
-    let buffer = if number == 113 {
-        &mut map[..]
-    } else {
-        &mut unmap[..]
-    };
-    let (memory, marks) = (w.memory.get(), w.marks.get());
-    let kept = emulator::request(&w.state, memory, marks, 0, number, buffer);
-    w.state = kept.state;
-    !kept.outcome.refused
+    on_request(w, number, |state, memory, marks, buffer| {
+        let kept = emulator::request(state, memory, marks, 0, number, buffer);
+        *state = kept.state;
+        !kept.outcome.refused
+    })
 }
 
 #[inline(always)]
 fn plain_request(w: &mut World, number: u32) -> Accepted {
+    on_request(w, number, |state, memory, marks, buffer| {
+        plain::request(state, memory, marks, 0, number, buffer).is_ok()
+    })
+}
+
+#[inline(always)]
+fn by_value_request(w: &mut World, number: u32) -> Accepted {
+    on_request(w, number, |state, memory, marks, buffer| {
+        let request: plain::by_value::Request = black_box(plain::by_value::request);
+        let (next, answer) = request(*state, memory, marks, 0, number, buffer);
+        *state = next;
+        answer.is_ok()
+    })
+}
+
+/// Makes a request with its buffer as it was.
+#[inline(always)]
+fn on_request(
+    w: &mut World,
+    number: u32,
+    request: impl FnOnce(&mut State, &[u8], &[u8], &mut [u8]) -> Accepted,
+) -> Accepted {
     let (mut map, mut unmap) = (w.map, w.unmap);
     let buffer = if number == 113 {
         &mut map[..]
     } else {
         &mut unmap[..]
     };
-    let (memory, marks) = (w.memory.get(), w.marks.get());
-    plain::request(&mut w.state, memory, marks, 0, number, buffer).is_ok()
+    request(&mut w.state, w.memory.get(), w.marks.get(), buffer)
 }
 
 /// The caller keeps the state that comes back.
@@ -210,10 +237,22 @@ pub const LOAD: Call = Call {
         !kept.outcome.refused
     }),
     plain: repeat!(|w| plain::load_parts(&mut w.state, &w.buffer.get()[..w.size]).is_ok()),
+    by_value: Some(repeat!(|w| {
+        let load: plain::by_value::Load = black_box(plain::by_value::load_parts);
+        let (next, answer) = load(w.state, &w.buffer.get()[..w.size]);
+        w.state = next;
+        answer.is_ok()
+    })),
     moves: None,
 };
 
-pub const SAVE: Call = call!("save", None, save_parts, save_parts, |w| (
-    &w.state,
-    &mut w.buffer.get_mut()[..w.size]
-));
+pub const SAVE: Call = Call {
+    by_value: Some(repeat!(|w| {
+        let save: plain::by_value::Save = black_box(plain::by_value::save_parts);
+        save(w.state, &mut w.buffer.get_mut()[..w.size]).is_ok()
+    })),
+    ..call!("save", None, save_parts, save_parts, |w| (
+        &w.state,
+        &mut w.buffer.get_mut()[..w.size]
+    ))
+};

@@ -64,6 +64,9 @@ fn contenders(measure: &mut Measure, rivals: &[Rival]) -> Vec<Contender> {
     let mut add = |name, program| list.push(Contender { name, program });
     add("emulator", Box::new(call.emulator));
     add("rust", Box::new(call.plain));
+    if let Some(program) = call.by_value {
+        add("rust-by-value", Box::new(program));
+    }
     if let Some(kind) = call.moves {
         for (name, program) in kind.copies() {
             add(name, Box::new(program));
@@ -106,8 +109,11 @@ mod tests {
     fn the_plain_program_does_what_the_emulator_does() {
         for measure in measures() {
             let emulator = left(&measure, measure.call.emulator);
-            let plain = left(&measure, measure.call.plain);
-            assert!(emulator == plain, "{} {}", measure.call.name, measure.held);
+            for plain in [Some(measure.call.plain), measure.call.by_value] {
+                let Some(plain) = plain else { continue };
+                let plain = left(&measure, plain);
+                assert!(emulator == plain, "{} {}", measure.call.name, measure.held);
+            }
         }
     }
 }
