@@ -1,17 +1,13 @@
 -- Numbers are aligned where all their bits together are.
 use Prim.Native.Nat.{ℕ, _%_}
-use native.Mathlib.Omega.{arith}
 use mathlib.Core.Path.{_≡_, sym, _∙_, ap₂}
 use mathlib.Core.Bool.{true}
-use lib.Bits.{bitOr, or-mod, or-add-and, and-le-l, and-le-r}
+use lib.Bits.{bitOr, or-mod}
 use borrow.Author.Tests.{eqb-true, eq-eqb}
 use Rattle.answer.specs.Tests.{_and_}
 use Rattle.answer.proofs.Tests.{and-true, and-made, same-test}
+use Rattle.answer.proofs.Bits.{or-zero}
 use Rattle.address.specs.Address.{aligned}
-
--- no bit is set in either, where none is in both together
-or-zero : (a b : ℕ) → bitOr a b ≡ 0 → (a ≡ 0) × (b ≡ 0)
-or-zero a b e = (omega (arith, or-add-and a b, and-le-r a b), omega (arith, or-add-and a b, and-le-l a b))
 
 pub aligned-or : (a b : ℕ) → aligned (bitOr a b) ≡ (aligned a and aligned b)
 unfolding aligned

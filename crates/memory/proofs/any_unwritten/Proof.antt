@@ -1,11 +1,11 @@
 -- `memory::any_unwritten` meets its contract: where nothing was found, each byte passed is written.
 use Prim.Native.Nat.{ℕ, _≤_, _<_, _-_, _+_}
 use native.Mathlib.Omega.{arith}
-use mathlib.Core.Path.{_≡_, sym, _∙_}
+use mathlib.Core.Path.{_≡_}
 use mathlib.Core.Bool.{true}
-use mathlib.Core.Logic.{⊎-elim}
 use borrow.Author.Needs.{needs}
 use borrow.Author.Count.{below-more}
+use Rattle.answer.proofs.Bits.{or-zero, xor-zero}
 use Rattle.address.specs.Address.{memoryAddress}
 use Rattle.memory.specs.Shadow.{initialized}
 use Rattle.memory.proofs.Shadow.{mark-written, run-whole}
@@ -21,11 +21,11 @@ abbrev μ-loop : tie.MeasureT-loop
 loop-holds : tie.Need-loop-holds Inv-loop μ-loop
 loop-holds c = (omega arith, λ e k h. absurd (omega arith))
 
-add-if1 : tie.Need-add-if1 Inv-loop μ-loop
-add-if1 c = search needs
+add-found : tie.Need-add-found Inv-loop μ-loop
+add-found c = search needs
 
-shared-slice-read-if1 : tie.Need-shared-slice-read-if1 Inv-loop μ-loop
-shared-slice-read-if1 c = search needs
+shared-slice-read-found : tie.Need-shared-slice-read-found Inv-loop μ-loop
+shared-slice-read-found c = search needs
 
 add-i : tie.Need-add-i Inv-loop μ-loop
 add-i c = search needs
@@ -35,11 +35,11 @@ loop-less c = search needs
 
 loop-again : tie.Need-loop-again Inv-loop μ-loop
 loop-again c =
-    let l = c .before .before .before in (
+    let l = c .before .before in (
       omega arith,
-      ⊎-elim (λ w e k h. let z : 1 ≡ 0 = sym (w .1) ∙ e in absurd (omega arith))
-          (λ w e. below-more _ _ (l .loop .inv .1 (sym (w .1) ∙ e)) (mark-written _ _ (w .0 .left)))
-          (c .if1 .came),
+      λ e.
+          let z = or-zero _ _ e in
+          below-more _ _ (l .loop .inv .1 (z .0)) (mark-written _ _ (xor-zero _ 1 (z .1))),
     )
 
 returns : tie.Need-returns Inv-loop μ-loop
@@ -52,8 +52,8 @@ any-unwritten-spec =
     Inv-loop
     μ-loop
     loop-holds
-    add-if1
-    shared-slice-read-if1
+    add-found
+    shared-slice-read-found
     add-i
     loop-less
     loop-again
