@@ -23,13 +23,13 @@ use Rattle.iommu.specs.declared.Table.{Table}
 use Rattle.iommu.specs.declared.Translation.the-variants.{Nowhere}
 use Rattle.memory.specs.Memory.{Memory, memoryOf, edited, stores}
 use Rattle.memory.proofs.Edits.{edited-bytes-length, edited-shadow-length}
-use Rattle.dma.specs.Transfers.{location, gather, scatter}
+use Rattle.dma.specs.Transfers.{gather, scatter}
 use Rattle.dma.specs.Walk.{Ready, Accepted, runIn, faultOf}
 use Rattle.dma.specs.declared.Run.{Run}
 use Rattle.dma.specs.declared.Run.the-variants.{Gap, Passed, Shows}
-use Rattle.dma.proofs.Walk.{entry, Walk, walk-start, end-nowhere, gap-nowhere, walk-past, run-room, run-translate, walk-run}
+use Rattle.dma.proofs.Walk.{entry, Walk, walk-start, end-nowhere, gap-nowhere, walk-past, run-room, run-translate, run-shown, walk-run}
 use Rattle.dma.proofs.Gather.{gather-length}
-use Rattle.dma.proofs.Transfers.{Contiguous, fault-nowhere, runFault, gather-more, scatter-more}
+use Rattle.dma.proofs.Transfers.{fault-nowhere, runFault, gather-more, scatter-more}
 
 -- ---- judging
 
@@ -104,11 +104,6 @@ module _ {t : Table} {size : ℕ} {d : DeviceAddress} {n k i : ℕ} (accepted : 
       go true e = nowhere (ltb-true k n e) (end-nowhere w h (ltb-true k n e))
       go false e = ltb-false k n e
 
-  pub run-shown : (more : i < t .count) {r : Run} (is : r ≡ runIn (entry t i) (deviceOffset d k) (n - k)) {a len : ℕ} → r ≡ Shows a len
-      → Contiguous (inUse t) (deviceOffset d k) a len
-  unfolding location
-  run-shown more is e j h = ap location (run-translate w more is e j h)
-
 -- ---- reading
 
 -- what is still to be read makes of the buffer what the whole makes of the one given
@@ -149,7 +144,7 @@ module _ {t : Table} {bytes : List ℕ} {d : DeviceAddress} {old buf : List ℕ}
       long = rw stored (length-sets buf k (part bytes a len) ∙ s .long);
       rest = λ shadow.
           rw stored
-          (gather-more (inUse t) d k a len (run-shown (s .accepted) (s .walk) more is e) (memoryOf bytes shadow) (length old) buf
+          (gather-more (inUse t) d k a len (run-shown (s .walk) more is e) (memoryOf bytes shadow) (length old) buf
           (run-room (s .walk) more is e .1) (run-room (s .walk) more is e .0)
           ∙ s .rest shadow);
     }
@@ -195,6 +190,6 @@ module _ {t : Table} {d : DeviceAddress} {buf : List ℕ} {old new : Memory} {k 
       shadow-long = ap (λ (m : Memory). length (m .shadow)) stored ∙ edited-shadow-length _ new ∙ s .shadow-long;
       rest =
           rw stored
-          (scatter-more (inUse t) d k a len (run-shown (s .accepted) (s .walk) more is e) new buf (run-room (s .walk) more is e .1)
+          (scatter-more (inUse t) d k a len (run-shown (s .walk) more is e) new buf (run-room (s .walk) more is e .1)
           ∙ s .rest);
     }

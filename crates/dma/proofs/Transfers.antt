@@ -7,7 +7,7 @@ use mathlib.Core.Path.{_≡_, refl, sym, _∙_, ap}
 use mathlib.Core.Bool.{Bool, true, false}
 use mathlib.Core.List.{List, [], _∷_, _++_}
 use lib.ListN.{length, getD, drop, take-append-drop}
-use lib.Seq.{sets, drop-cons, drop-drop}
+use lib.Seq.{sets, take-length, drop-cons, drop-drop}
 use borrow.Author.Tests.{lt-ltb, le-ltb, le-leb, lt-leb, leb-true, eq-eqb, ne-eqb}
 use Rattle.answer.specs.Tests.{pick}
 use Rattle.answer.specs.Codes.{Range, TooLong, Unmapped, NoRight}
@@ -17,7 +17,7 @@ use Rattle.answer.specs.declared.Verdict.{Verdict}
 use Rattle.answer.specs.declared.Verdict.the-variants.{Pass, Fail}
 use Rattle.answer.proofs.Checks.{never, then-pass, then-next, then-fail, when-true, when-false, unless-pass, unless-true, unless-false, firstFault-all, firstFault-pass, firstFault-at, firstFault-cong}
 use Rattle.wire.specs.Field.{part}
-use Rattle.wire.proofs.Laws.{sets-append, length-part}
+use Rattle.wire.proofs.Laws.{sets-all, sets-append, length-part}
 use Rattle.address.specs.Address.{deviceLimit, memoryAddress, memoryOffset, deviceOffset, inDeviceRange}
 use Rattle.address.specs.declared.DeviceAddress.{DeviceAddress}
 use Rattle.iommu.specs.Table.{translate, mapped, readable, writable}
@@ -28,7 +28,7 @@ use Rattle.memory.specs.Memory.{Memory, Edit, put, edited, stores, byteAt}
 use Rattle.memory.specs.Transfers.{unwrittenIn}
 use Rattle.memory.proofs.Edits.{edited-append}
 use Rattle.dma.specs.Transfers.{readFault, writeFault, transferChecks, deviceReadChecks, deviceWriteChecks, location, gather, scatter}
-use Rattle.dma.specs.Walk.{Accepted, faultOf}
+use Rattle.dma.specs.Walk.{Accepted, Contiguous, FirstRun, faultOf}
 use Rattle.dma.proofs.Gather.{gather-length, gather-append}
 
 -- ---- the fault of one byte
@@ -87,6 +87,11 @@ pub checks-write : (ms : List Mapping) (shadow : List ℕ) (d : DeviceAddress) (
 unfolding faultOf pick deviceWriteChecks
 checks-write ms shadow d n = refl
 
+-- a verdict that comes with no run
+pub without-run-meets : {ms : List Mapping} {d : DeviceAddress} {size at len : ℕ} {verdict given due : Verdict} → (verdict ≡ given) × (at ≡ 0) × (len ≡ 0)
+    → due ≡ given → (verdict ≡ due) × FirstRun ms d size at len
+without-run-meets r e = (r .0 ∙ sym e, record { room = omega (arith, r .1, r .2); shows = λ j h. absurd (omega (arith, r .2)) })
+
 module _ (fault : Translation → Verdict) (ms : List Mapping) (d : DeviceAddress) (n : ℕ) where
   pub checks-long : transferLimit < n → transferChecks fault ms d n ≡ Fail TooLong 0
   unfolding transferChecks lengthCheck
@@ -127,10 +132,6 @@ scatter-append ms d [] ys = rw (add-zero (d .0))
 scatter-append ms d (x ∷ xs) ys =
     let e : d .0 + suc (length xs) ≡ d .0 + 1 + length xs = omega arith in
     rw (e, scatter-append ms (deviceOffset d 1) xs ys)
-
--- the n device addresses from d on show the memory from a on
-abbrev pub Contiguous : List Mapping → DeviceAddress → ℕ → ℕ → Type 0
-Contiguous ms d a n = (j : ℕ) → j < n → location (translate ms (deviceOffset d j)) ≡ memoryAddress (a + j)
 
 module _ (ms : List Mapping) (d : DeviceAddress) (a n : ℕ) (run : Contiguous ms d a (suc n)) where
   run-first : location (translate ms d) ≡ memoryAddress a
@@ -178,3 +179,13 @@ module _ (ms : List Mapping) (d : DeviceAddress) (k a len : ℕ) (run : Contiguo
       let first : scatter ms (deviceOffset d k) (part buf k len) ≡ stores (memoryAddress a) (part buf k len) =
       scatter-run ms (deviceOffset d k) a (part buf k len) (rw e run) in
       sym (ap (λ (xs : List ℕ). edited (scatter ms (deviceOffset d k) xs) m) split ∙ rw (scatter-append, edited-append, first, e, next))
+
+-- a run that is the whole of a transfer
+module _ {ms : List Mapping} {d : DeviceAddress} {size at len : ℕ} (first : FirstRun ms d size at len) (buf : List ℕ) (whole : len ≡ length buf) where
+  pub gather-one : (m : Memory) → size ≡ length (m .bytes) → sets buf 0 (part (m .bytes) at len) ≡ gather ms m d (length buf)
+  gather-one m level =
+      let room : at + len ≤ length (m .bytes) = omega (arith, first .room) in
+      rw (← whole, ← gather-run ms m d at len (first .shows) room) (sets-all buf _ (gather-length ms m d len ∙ whole))
+
+  pub scatter-one : scatter ms d buf ≡ stores (memoryAddress at) (part buf 0 len)
+  scatter-one = rw (whole, take-length buf) (scatter-run ms d at buf (rw whole at (first .shows)))

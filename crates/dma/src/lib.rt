@@ -1,5 +1,6 @@
 // Device reads and writes: transfers between a buffer and the memory that the mapping table shows.
-// A transfer walks the table once, run by run: a run is what one mapping shows of it.
+// The checks walk the table once, run by run: a run is what one mapping shows of a transfer. They hand back a run that is the whole
+// transfer, whose bytes are then moved at once; those of several runs are moved by a walk of their own.
 ghost use mathlib.Core.Path.{_≡_};
 ghost use mathlib.Core.Bool.{true};
 ghost use mathlib.Core.List.{List};
@@ -11,11 +12,18 @@ ghost use Rattle.iommu.specs.Table.{translate, inUse, inRange};
 ghost use Rattle.iommu.specs.declared.Translation.the-variants.{At};
 ghost use Rattle.memory.specs.Memory.{memoryOf, edited};
 ghost use Rattle.dma.specs.Transfers.{transferChecks, deviceReadChecks, deviceWriteChecks, gather, scatter};
-ghost use Rattle.dma.specs.Walk.{Ready, Accepted, runIn, faultOf};
+ghost use Rattle.dma.specs.Walk.{Ready, Accepted, FirstRun, runIn, faultOf};
 use address::DeviceAddress;
 use answer::Verdict;
 use iommu::Mapping;
 use iommu::Table;
+
+// What the checks of a transfer come to, and where it begins: its first `len` bytes are the memory from `at` on.
+pub struct Checked {
+    pub verdict: Verdict,
+    pub at: usize,
+    pub len: usize,
+}
 
 // What one mapping shows of a transfer, from an address of it on.
 enum Run {
@@ -65,34 +73,48 @@ fn run_fault(shadow: &[u8], at: usize, n: usize, rights: u32, write: bool) -> Ve
     memory::check_written(shadow, at, n)
 }
 
+// A verdict with no run: a refusal, or a transfer of several runs.
+fn without_run(verdict: Verdict) -> Checked
+    ensures { λ r. ⌜ (r .verdict ≡ verdict) × (r .at ≡ 0) × (r .len ≡ 0) ⌝ }
+{
+    Checked {
+        verdict,
+        at: 0,
+        len: 0,
+    }
+}
+
 // The first fault of a transfer of `n` bytes from `d` on: offset `k` is judged by the mapping at index `i`.
-fn first_fault(table: Table, shadow: &[u8], d: DeviceAddress, n: usize, write: bool) -> Verdict
+fn first_fault(table: Table, shadow: &[u8], d: DeviceAddress, n: usize, write: bool) -> Checked
     requires { ⌜ Ready table (length (now shadow)) ⌝ }
     requires { ⌜ d .0 + n ≤ deviceLimit ⌝ }
-    ensures { λ r. ⌜ r ≡ firstFault (λ i. faultOf write (now (shadow .entry)) (translate (inUse table) (deviceOffset d i))) n ⌝ }
+    ensures { λ r. ⌜ (r .verdict ≡ firstFault (λ i. faultOf write (now (shadow .entry)) (translate (inUse table) (deviceOffset d i))) n) × FirstRun (inUse table) d (length (now (shadow .entry))) (r .at) (r .len) ⌝ }
 {
     let count = table.count;
     let mut k: usize = 0;
     let mut i: usize = 0;
     while i < count {
         if n <= k {
-            return Verdict::Pass;
+            return without_run(Verdict::Pass);
         }
         let m = table.entries[i];
         let run = run_in(m, DeviceAddress(d.0 + k as u64), n - k);
         match run {
             Run::Gap => {
-                return Verdict::Fail(answer::UNMAPPED, k as u64);
+                return without_run(Verdict::Fail(answer::UNMAPPED, k as u64));
             }
             Run::Passed => {}
             Run::Shows(at, len) => {
                 let verdict = run_fault(shadow, at, len, m.rights, write);
                 match verdict {
                     Verdict::Pass => {
+                        if len == n {
+                            return Checked { verdict, at, len };
+                        }
                         k += len;
                     }
                     Verdict::Fail(code, place) => {
-                        return Verdict::Fail(code, k as u64 + place);
+                        return without_run(Verdict::Fail(code, k as u64 + place));
                     }
                 }
             }
@@ -100,43 +122,43 @@ fn first_fault(table: Table, shadow: &[u8], d: DeviceAddress, n: usize, write: b
         i += 1;
     }
     if k < n {
-        return Verdict::Fail(answer::UNMAPPED, k as u64);
+        return without_run(Verdict::Fail(answer::UNMAPPED, k as u64));
     }
-    Verdict::Pass
+    without_run(Verdict::Pass)
 }
 
 // The checks of a transfer of `n` bytes from `d` on. The end of its range is tested by subtraction, since a sum could wrap.
-fn check_transfer(table: Table, shadow: &[u8], d: DeviceAddress, n: usize, write: bool) -> Verdict
+fn check_transfer(table: Table, shadow: &[u8], d: DeviceAddress, n: usize, write: bool) -> Checked
     requires { ⌜ Ready table (length (now shadow)) ⌝ }
-    ensures { λ r. ⌜ r ≡ transferChecks (faultOf write (now (shadow .entry))) (inUse table) d n ⌝ }
+    ensures { λ r. ⌜ (r .verdict ≡ transferChecks (faultOf write (now (shadow .entry))) (inUse table) d n) × FirstRun (inUse table) d (length (now (shadow .entry))) (r .at) (r .len) ⌝ }
 {
     if answer::TRANSFER_LIMIT < n {
-        return Verdict::Fail(answer::TOO_LONG, 0);
+        return without_run(Verdict::Fail(answer::TOO_LONG, 0));
     }
     if address::DEVICE_LIMIT - (n as u64) < d.0 {
-        return Verdict::Fail(answer::RANGE, 0);
+        return without_run(Verdict::Fail(answer::RANGE, 0));
     }
     first_fault(table, shadow, d, n, write)
 }
 
 // The checks of a device read of `n` bytes from `d` on.
-pub fn check_read(table: Table, shadow: &[u8], d: DeviceAddress, n: usize) -> Verdict
+pub fn check_read(table: Table, shadow: &[u8], d: DeviceAddress, n: usize) -> Checked
     requires { ⌜ Ready table (length (now shadow)) ⌝ }
-    ensures { λ r. ⌜ r ≡ deviceReadChecks (inUse table) (now (shadow .entry)) d n ⌝ }
+    ensures { λ r. ⌜ (r .verdict ≡ deviceReadChecks (inUse table) (now (shadow .entry)) d n) × FirstRun (inUse table) d (length (now (shadow .entry))) (r .at) (r .len) ⌝ }
 {
     check_transfer(table, shadow, d, n, false)
 }
 
 // The checks of a device write of `n` bytes to `d`.
-pub fn check_write(table: Table, shadow: &[u8], d: DeviceAddress, n: usize) -> Verdict
+pub fn check_write(table: Table, shadow: &[u8], d: DeviceAddress, n: usize) -> Checked
     requires { ⌜ Ready table (length (now shadow)) ⌝ }
-    ensures { λ r. ⌜ r ≡ deviceWriteChecks (inUse table) d n ⌝ }
+    ensures { λ r. ⌜ (r .verdict ≡ deviceWriteChecks (inUse table) d n) × FirstRun (inUse table) d (length (now (shadow .entry))) (r .at) (r .len) ⌝ }
 {
     check_transfer(table, shadow, d, n, true)
 }
 
-// Reads into `buf` what the device addresses from `d` on show of memory, whatever its shadow is.
-pub fn read(table: Table, bytes: &[u8], d: DeviceAddress, buf: &mut [u8])
+// Reads into `buf` what the device addresses from `d` on show of memory, run by run, whatever its shadow is.
+fn read_runs(table: Table, bytes: &[u8], d: DeviceAddress, buf: &mut [u8])
     requires { ⌜ Ready table (length (now bytes)) ⌝ }
     requires { ⌜ Accepted (inUse table) d (length (now buf)) ⌝ }
     ensures { λ r. ⌜ ((shadow : List ℕ) → now (buf .exit) ≡ gather (inUse table) (memoryOf (now (bytes .entry)) shadow) d (length (now (buf .entry)))) ⌝ }
@@ -164,9 +186,24 @@ pub fn read(table: Table, bytes: &[u8], d: DeviceAddress, buf: &mut [u8])
     }
 }
 
+// Reads into `buf` what the device addresses from `d` on show of memory, whatever its shadow is.
+pub fn read(table: Table, checked: Checked, bytes: &[u8], d: DeviceAddress, buf: &mut [u8])
+    requires { ⌜ Ready table (length (now bytes)) ⌝ }
+    requires { ⌜ Accepted (inUse table) d (length (now buf)) ⌝ }
+    requires { ⌜ FirstRun (inUse table) d (length (now bytes)) (checked .at) (checked .len) ⌝ }
+    ensures { λ r. ⌜ ((shadow : List ℕ) → now (buf .exit) ≡ gather (inUse table) (memoryOf (now (bytes .entry)) shadow) d (length (now (buf .entry)))) ⌝ }
+{
+    let len = checked.len;
+    if len == buf.len() {
+        wire::copy(buf, 0, bytes, checked.at, len);
+        return;
+    }
+    read_runs(table, bytes, d, buf);
+}
+
 // Stores `buf` where the mappings show the device addresses from `d` on. Runs are stored in the order of their offsets, so where
 // two mappings show one byte the later offset wins.
-pub fn write(table: Table, bytes: &mut [u8], shadow: &mut [u8], d: DeviceAddress, buf: &[u8])
+fn write_runs(table: Table, bytes: &mut [u8], shadow: &mut [u8], d: DeviceAddress, buf: &[u8])
     requires { ⌜ Ready table (length (now bytes)) ⌝ }
     requires { ⌜ length (now shadow) ≡ length (now bytes) ⌝ }
     requires { ⌜ Accepted (inUse table) d (length (now buf)) ⌝ }
@@ -193,4 +230,26 @@ pub fn write(table: Table, bytes: &mut [u8], shadow: &mut [u8], d: DeviceAddress
         }
         i += 1;
     }
+}
+
+// Stores `buf` where the mappings show the device addresses from `d` on.
+pub fn write(
+    table: Table,
+    checked: Checked,
+    bytes: &mut [u8],
+    shadow: &mut [u8],
+    d: DeviceAddress,
+    buf: &[u8],
+)
+    requires { ⌜ Ready table (length (now bytes)) ⌝ }
+    requires { ⌜ length (now shadow) ≡ length (now bytes) ⌝ }
+    requires { ⌜ Accepted (inUse table) d (length (now buf)) ⌝ }
+    requires { ⌜ FirstRun (inUse table) d (length (now bytes)) (checked .at) (checked .len) ⌝ }
+    ensures { λ r. ⌜ memoryOf (now (bytes .exit)) (now (shadow .exit)) ≡ edited (scatter (inUse table) d (now (buf .entry))) (memoryOf (now (bytes .entry)) (now (shadow .entry))) ⌝ }
+{
+    if checked.len == buf.len() {
+        memory::store(bytes, shadow, checked.at, buf, 0, checked.len);
+        return;
+    }
+    write_runs(table, bytes, shadow, d, buf);
 }

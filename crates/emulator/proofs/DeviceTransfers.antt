@@ -11,7 +11,7 @@ use Rattle.wire.proofs.Laws.{sets-all}
 use Rattle.iommu.specs.Table.{inUse}
 use Rattle.memory.specs.Memory.{Memory, edited}
 use Rattle.dma.specs.Transfers.{deviceReadChecks, deviceWriteChecks, gather, scatter}
-use Rattle.dma.specs.Walk.{Ready}
+use Rattle.dma.specs.Walk.{Ready, FirstRun}
 use Rattle.dma.proofs.Gather.{gather-length}
 use Rattle.emulator.specs.Machine.{both, usable, emulatorOf, machineOf}
 use Rattle.emulator.specs.Effect.{value, filled}
@@ -31,6 +31,10 @@ module _ (s : State) (m : Memory) (good : usable both (emulatorOf s m) ≡ true)
 
   pub shadow-ready : Ready (s .table) (length (m .shadow))
   shadow-ready = rw shadow-level memory-ready
+
+  -- a run that the checks found over the marks is one over memory
+  pub memory-run : {d : DeviceAddress} {at len : ℕ} → FirstRun (inUse (s .table)) d (length (m .shadow)) at len → FirstRun (inUse (s .table)) d (length (m .bytes)) at len
+  memory-run first = rw shadow-level at first
 
 module _ (d : DeviceAddress) (buf : List ℕ) (s : State) (m : Memory) (good : usable both (emulatorOf s m) ≡ true) where
   pub read-refused : (code place : ℕ) → deviceReadChecks (inUse (s .table)) (m .shadow) d (length buf) ≡ Fail code place

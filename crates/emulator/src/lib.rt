@@ -183,11 +183,12 @@ pub fn device_read(
         return Answer::Refused(answer::BAD_BENCH, 0);
     }
     let table = state.table;
-    let verdict = dma::check_read(table, shadow, d, buf.len());
+    let checked = dma::check_read(table, shadow, d, buf.len());
+    let verdict = checked.verdict;
     match verdict {
         Verdict::Fail(code, place) => Answer::Refused(code, place),
         Verdict::Pass => {
-            dma::read(table, bytes, d, buf);
+            dma::read(table, checked, bytes, d, buf);
             Answer::Done(0)
         }
     }
@@ -207,11 +208,12 @@ pub fn device_write(
         return Answer::Refused(answer::BAD_BENCH, 0);
     }
     let table = state.table;
-    let verdict = dma::check_write(table, shadow, d, buf.len());
+    let checked = dma::check_write(table, shadow, d, buf.len());
+    let verdict = checked.verdict;
     match verdict {
         Verdict::Fail(code, place) => Answer::Refused(code, place),
         Verdict::Pass => {
-            dma::write(table, bytes, shadow, d, buf);
+            dma::write(table, checked, bytes, shadow, d, buf);
             Answer::Done(0)
         }
     }

@@ -5,7 +5,7 @@ use Rattle.answer.proofs.Tests.{found-false, found-true}
 use Rattle.dma.proofs.Transfers.{read-accepted}
 use Rattle.emulator.specs.Calls.{given}
 use Rattle.emulator.proofs.Meets.{bad-bench}
-use Rattle.emulator.proofs.DeviceTransfers.{memory-ready, shadow-ready, read-refused, read-done}
+use Rattle.emulator.proofs.DeviceTransfers.{memory-ready, shadow-ready, memory-run, read-refused, read-done}
 use Rattle.emulator.proofs.device_read.Statement.{statement}
 use Rattle.emulator.proofs.device_read.Tie as tie
 
@@ -28,12 +28,13 @@ enum-told c = search needs
 read-requires : tie.Need-read-requires
 read-requires c κs =
     let v = c .before .before .before in
-    (memory-ready _ _ (found-true (v .before .before .before .usable .ensures) (v .before .before .if1 .left)), read-accepted _ _ _ _ (sym (v .check-read .ensures) ∙ c .before .enum-told .given .1))
+    let g = found-true (v .before .before .before .usable .ensures) (v .before .before .if1 .left) in
+    (memory-ready _ _ g, (read-accepted _ _ _ _ (sym (v .check-read .ensures .0) ∙ c .before .enum-told .given .1), memory-run _ _ g (v .check-read .ensures .1)))
 
 returns-2 : tie.Need-returns-2
 returns-2 c =
     let v = c .before .before .before in
-    read-refused _ _ _ _ (found-true (v .before .before .before .usable .ensures) (v .before .before .if1 .left)) _ _ (sym (v .check-read .ensures) ∙ c .before .verdict .given .1)
+    read-refused _ _ _ _ (found-true (v .before .before .before .usable .ensures) (v .before .before .if1 .left)) _ _ (sym (v .check-read .ensures .0) ∙ c .before .verdict .given .1)
 
 same-length : tie.Need-same-length
 same-length c = search needs
@@ -42,7 +43,7 @@ returns-3 : tie.Need-returns-3
 returns-3 c =
     let t = c .before .before .before .before in
     let v = t .before .before in
-    read-done _ _ _ _ (found-true (v .before .before .before .usable .ensures) (v .before .before .if1 .left)) _ (sym (v .check-read .ensures) ∙ t .enum-told .given .1) (c .before .before .read .ensures _)
+    read-done _ _ _ _ (found-true (v .before .before .before .usable .ensures) (v .before .before .if1 .left)) _ (sym (v .check-read .ensures .0) ∙ t .enum-told .given .1) (c .before .before .read .ensures _)
 
 pub device-read-spec : {M : Type 1} → statement M
 device-read-spec = tie.close (tie.spec usable-requires returns check-read-requires enum-known-verdict enum-told read-requires returns-2 same-length returns-3)

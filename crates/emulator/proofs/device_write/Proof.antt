@@ -5,7 +5,7 @@ use Rattle.answer.proofs.Tests.{found-false, found-true}
 use Rattle.dma.proofs.Transfers.{write-accepted}
 use Rattle.emulator.specs.Calls.{given}
 use Rattle.emulator.proofs.Meets.{bad-bench}
-use Rattle.emulator.proofs.DeviceTransfers.{memory-ready, shadow-ready, shadow-level, write-refused, write-done}
+use Rattle.emulator.proofs.DeviceTransfers.{memory-ready, shadow-ready, shadow-level, memory-run, write-refused, write-done}
 use Rattle.emulator.proofs.device_write.Statement.{statement}
 use Rattle.emulator.proofs.device_write.Tie as tie
 
@@ -35,7 +35,7 @@ write-requires : tie.Need-write-requires
 write-requires c κs =
     let v = c .before .before .before .before in
     let g = (found-true (v .before .before .before .before .usable .ensures) (v .before .before .before .if1 .left)) in
-    (memory-ready _ _ g, (shadow-level _ _ g, write-accepted _ _ _ (sym (v .check-write .ensures) ∙ c .before .before .enum-told .given .1)))
+    (memory-ready _ _ g, (shadow-level _ _ g, (write-accepted _ _ _ (sym (v .check-write .ensures .0) ∙ c .before .before .enum-told .given .1), memory-run _ _ g (v .check-write .ensures .1))))
 
 same-length-3 : tie.Need-same-length-3
 same-length-3 c = search needs
@@ -46,7 +46,7 @@ same-length-4 c = search needs
 returns-2 : tie.Need-returns-2
 returns-2 c =
     let v = c .before .before .before in
-    write-refused _ _ _ _ (found-true (v .before .before .before .before .usable .ensures) (v .before .before .before .if1 .left)) _ _ (sym (v .check-write .ensures) ∙ c .before .verdict .given .1)
+    write-refused _ _ _ _ (found-true (v .before .before .before .before .usable .ensures) (v .before .before .before .if1 .left)) _ _ (sym (v .check-write .ensures .0) ∙ c .before .verdict .given .1)
 
 same-length-5 : tie.Need-same-length-5
 same-length-5 c = search needs
@@ -58,7 +58,7 @@ returns-3 : tie.Need-returns-3
 returns-3 c =
     let t = c .before .before .before .before .before .before .before in
     let v = t .before .before in
-    write-done _ _ _ _ (found-true (v .before .before .before .before .usable .ensures) (v .before .before .before .if1 .left)) _ (sym (v .check-write .ensures) ∙ t .enum-told .given .1) (c .before .before .before .before .write .ensures)
+    write-done _ _ _ _ (found-true (v .before .before .before .before .usable .ensures) (v .before .before .before .if1 .left)) _ (sym (v .check-write .ensures .0) ∙ t .enum-told .given .1) (c .before .before .before .before .write .ensures)
 
 pub device-write-spec : {M : Type 1} → statement M
 device-write-spec = tie.close (tie.spec usable-requires same-length same-length-2 returns check-write-requires enum-known-verdict enum-told write-requires same-length-3 same-length-4 returns-2 same-length-5 same-length-6 returns-3)
