@@ -1,28 +1,23 @@
--- Laws of the table of registers: its rules, each computed once over all rows, and the loop that searches it.
-use Prim.Native.Nat.{ℕ, zero, suc, _+_, _-_, _^_, _≤_, _<_}
-use native.Mathlib.Numerals.{add-one}
+-- Laws of the table of registers: its rules, each computed once over all rows, and the search for a row.
+use Prim.Native.Nat.{ℕ, zero, suc, _+_, _^_, _≤_, _<_}
 use native.Mathlib.Omega.{arith}
 use mathlib.Core.Path.{_≡_, refl, sym, _∙_, ap}
-use mathlib.Core.Bool.{Bool, true, false, false≢true}
-use mathlib.Core.List.{map}
-use lib.ListN.{getD, List·getD-map}
+use mathlib.Core.Bool.{Bool, true, false, not}
+use mathlib.Core.Logic.{_⊎_, inl, inr, ⊎-elim}
 use lib.Dec.{eqb, ltb, leb}
-use borrow.Author.Tests.{eq-eqb, ne-eqb, eqb-true, leb-true, ltb-true, le-ltb}
+use borrow.Author.Tests.{eq-eqb, eqb-true, leb-true, le-leb, ltb-true, ltb-false, le-ltb}
 use Rattle.answer.specs.Tests.{_and_, _or_, pick}
-use Rattle.answer.proofs.Tests.{and-true, or-made, below, below-at}
-use Rattle.registers.specs.Rows.{Row, rows, noRow, rowCount, OfferedFeatures, DriverFeatures, QueueConfig, NotifyConfig, kindOf, selectorOf, sizeOf, rowFrom, rowOf, selects, listed}
+use Rattle.answer.proofs.Tests.{and-true, and-made, below, below-at}
+use Rattle.registers.specs.Rows.{rowCount, OfferedFeatures, DriverFeatures, QueueConfig, NotifyConfig, kindOf, selectorOf, sizeOf, rowFrom, rowOf, selects, listed}
 
--- A column of the table: a list that computes to it has at each place what the row there has.
-pub column : (f : Row → ℕ) (i : ℕ) → getD (map f rows) i (f noRow) ≡ f (getD rows i noRow)
-column f i = List·getD-map f rows i noRow
+-- what holds of each row of a range, which is computed
+pub ranged : (p : ℕ → Bool) (low high : ℕ) → below (λ i. ltb i low or p i) high ≡ true → (i : ℕ) → low ≤ i → i < high → p i ≡ true
+unfolding _or_
+ranged p low high all i l h = rw (le-ltb i low l) at (below-at (λ k. ltb k low or p k) high all i h)
 
--- A column that has one value over a range of rows, which is computed.
+-- a column that has one value over a range of rows
 pub in-range : (f : ℕ → ℕ) (x low high : ℕ) → below (λ i. ltb i low or eqb (f i) x) high ≡ true → (i : ℕ) → low ≤ i → i < high → x ≡ f i
-in-range f x low high all i p q = go (ltb i low) (eqb (f i) x) (le-ltb i low p) refl (below-at (λ k. ltb k low or eqb (f k) x) high all i q)
-  where
-    go : (s t : Bool) → s ≡ false → eqb (f i) x ≡ t → (s or t) ≡ true → x ≡ f i
-    go s true e h k = sym (eqb-true (f i) x h)
-    go s false e h k = absurd (false≢true (sym (or-made s false e refl) ∙ k))
+in-range f x low high all i l h = sym (eqb-true _ _ (ranged (λ k. eqb (f k) x) low high all i l h))
 
 -- ---- rules of the rows
 
@@ -33,6 +28,17 @@ size-most i h = leb-true _ _ (below-at (λ i. leb (sizeOf i) 32) rowCount refl i
 pub kind-fits : (i : ℕ) → i < rowCount → kindOf i < 256 ^ 2
 unfolding kindOf below _and_
 kind-fits i h = ltb-true _ _ (below-at (λ i. ltb (kindOf i) (256 ^ 2)) rowCount refl i h)
+
+-- the types of a range of rows
+pub kinds-within : (least most low high : ℕ) → below (λ i. ltb i low or (leb least (kindOf i) and leb (kindOf i) most)) high ≡ true
+    → (i : ℕ) → low ≤ i → i < high → (least ≤ kindOf i) × (kindOf i ≤ most)
+kinds-within least most low high all i l h =
+    let b = and-true _ _ (ranged (λ i. leb least (kindOf i) and leb (kindOf i) most) low high all i l h) in
+    (leb-true _ _ (b .0), leb-true _ _ (b .1))
+
+pub kind-listed : (i : ℕ) → i < rowCount → (OfferedFeatures ≤ kindOf i) × (kindOf i ≤ NotifyConfig)
+unfolding kindOf below _and_ _or_
+kind-listed i h = kinds-within OfferedFeatures NotifyConfig 0 rowCount refl i (omega arith) h
 
 pub selector-fits : (i : ℕ) → i < rowCount → selectorOf i < 256 ^ 8
 unfolding selectorOf below _and_
@@ -55,50 +61,53 @@ kept-row (suc i) h other = omega arith
 
 -- ---- the search
 
-module _ (kind selector i : ℕ) (lt : i < rowCount) where
-  left : rowCount - i ≡ suc (rowCount - (i + 1))
-  left = omega arith
+record Found (kind selector end i : ℕ) : Type 0 where
+  inside : i < end
+  same-kind : kindOf i ≡ kind
+  same-selector : selectorOf i ≡ selector
 
-  pub row-here : kindOf i ≡ kind → selectorOf i ≡ selector → rowFrom kind selector i (rowCount - i) ≡ i
-  unfolding rowFrom _and_ pick
-  row-here p q = rw (left, eq-eqb _ _ p, eq-eqb _ _ q)
-
-  pub other-kind : (kindOf i ≡ kind → ⊥) → rowFrom kind selector i (rowCount - i) ≡ rowFrom kind selector (i + 1) (rowCount - (i + 1))
-  unfolding rowFrom _and_ pick
-  other-kind p = rw (left, ne-eqb _ _ p, add-one)
-
-  pub other-selector : kindOf i ≡ kind → (selectorOf i ≡ selector → ⊥)
-      → rowFrom kind selector i (rowCount - i) ≡ rowFrom kind selector (i + 1) (rowCount - (i + 1))
-  unfolding rowFrom _and_ pick
-  other-selector p q = rw (left, eq-eqb _ _ p, ne-eqb _ _ q, add-one)
-
-pub row-none : (kind selector i : ℕ) → rowCount ≤ i → rowFrom kind selector i (rowCount - i) ≡ i
-unfolding rowFrom
-row-none kind selector i h = let e : rowCount - i ≡ 0 = omega arith in rw e
-
--- a row that was found is of the type and the selector number asked for
-found : (kind selector i n : ℕ) → rowFrom kind selector i n < i + n
-    → (kindOf (rowFrom kind selector i n) ≡ kind) × (selectorOf (rowFrom kind selector i n) ≡ selector)
+-- it ends behind the rows, or at one of the type and the selector number asked for
+search-ends : (kind selector i n : ℕ) → (i + n ≡ rowFrom kind selector i n) ⊎ Found kind selector (i + n) (rowFrom kind selector i n)
 unfolding rowFrom pick
-found kind selector i zero h = absurd (omega arith)
-found kind selector i (suc n) h = go (eqb (kindOf i) kind and eqb (selectorOf i) selector) refl (λ lt. found kind selector (suc i) n (omega arith)) h
+search-ends kind selector i zero = inl (omega arith)
+search-ends kind selector i (suc n) = go (eqb (kindOf i) kind and eqb (selectorOf i) selector) refl (search-ends kind selector (suc i) n)
   where
     go : (t : Bool) → (eqb (kindOf i) kind and eqb (selectorOf i) selector) ≡ t
-        → (rowFrom kind selector (suc i) n < i + suc n
-        → (kindOf (rowFrom kind selector (suc i) n) ≡ kind) × (selectorOf (rowFrom kind selector (suc i) n) ≡ selector))
-        → pick t i (rowFrom kind selector (suc i) n) < i + suc n
-        → (kindOf (pick t i (rowFrom kind selector (suc i) n)) ≡ kind) × (selectorOf (pick t i (rowFrom kind selector (suc i) n)) ≡ selector)
-    go true e rest h = let b = and-true _ _ e in (eqb-true _ _ (b .0), eqb-true _ _ (b .1))
-    go false e rest h = rest h
+        → (suc i + n ≡ rowFrom kind selector (suc i) n) ⊎ Found kind selector (suc i + n) (rowFrom kind selector (suc i) n)
+        → (i + suc n ≡ pick t i (rowFrom kind selector (suc i) n)) ⊎ Found kind selector (i + suc n) (pick t i (rowFrom kind selector (suc i) n))
+    go true e rest =
+        let b = and-true _ _ e in
+        inr record { inside = omega arith; same-kind = eqb-true _ _ (b .0); same-selector = eqb-true _ _ (b .1) }
+    go false e rest = let n′ : i + suc n ≡ suc i + n = omega arith in rw n′ rest
 
 pub row-kind : (kind selector : ℕ) → rowOf kind selector < rowCount → kindOf (rowOf kind selector) ≡ kind
 unfolding rowOf
-row-kind kind selector h = found kind selector 0 rowCount h .0
+row-kind kind selector h = ⊎-elim (λ e. absurd (omega arith)) (λ f. f .same-kind) (search-ends kind selector 0 rowCount)
+
+-- where no row is of the type and the selector number
+pub no-row : (kind selector : ℕ) → ((i : ℕ) → i < rowCount → kindOf i ≡ kind → selectorOf i ≡ selector → ⊥) → rowCount ≡ rowOf kind selector
+unfolding rowOf
+no-row kind selector other =
+    ⊎-elim (λ e. e) (λ f. absurd (other _ (f .inside) (f .same-kind) (f .same-selector))) (search-ends kind selector 0 rowCount)
+
+-- The rows of a type whose selector numbers are those below `count`, in their order from row `first` on: computed for the rows that there are,
+-- and for those that there are not.
+pub among : (kind first count : ℕ) → below (λ k. eqb (rowOf kind k) (first + k)) count ≡ true
+    → below (λ i. not (eqb (kindOf i) kind) or ltb (selectorOf i) count) rowCount ≡ true
+    → (selector : ℕ) → pick (ltb selector count) (first + selector) rowCount ≡ rowOf kind selector
+unfolding pick _or_
+among kind first count here there selector = go (ltb selector count) refl
+  where
+    go : (t : Bool) → ltb selector count ≡ t → pick t (first + selector) rowCount ≡ rowOf kind selector
+    go true e = sym (eqb-true _ _ (below-at (λ k. eqb (rowOf kind k) (first + k)) count here selector (ltb-true _ _ e)))
+    go false e = no-row kind selector (λ i lt p q. omega (arith, ltb-false selector count e, ltb-true (selectorOf i) count (rw (eq-eqb _ _ p) at (below-at (λ i. not (eqb (kindOf i) kind) or ltb (selectorOf i) count) rowCount there i lt))))
 
 -- and that type is listed
 pub row-listed : (kind selector : ℕ) → rowOf kind selector < rowCount → listed kind ≡ true
-unfolding listed kindOf below _and_
-row-listed kind selector h = ap listed (sym (row-kind kind selector h)) ∙ below-at (λ i. listed (kindOf i)) rowCount refl (rowOf kind selector) h
+unfolding listed
+row-listed kind selector h =
+    let b = kind-listed (rowOf kind selector) h in
+    ap listed (sym (row-kind kind selector h)) ∙ and-made _ _ (le-leb _ _ (b .0)) (le-leb _ _ (b .1))
 
 pub selected : (kind selector : ℕ) → selects kind selector ≡ true → rowOf kind selector < rowCount
 unfolding selects

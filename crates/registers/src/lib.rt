@@ -2,13 +2,15 @@
 use answer::Verdict;
 ghost use mathlib.Core.Path.{_≡_};
 ghost use mathlib.Core.Option.{none, some};
-ghost use Prim.Native.Nat.{_-_, _<_, _≤_};
+ghost use Prim.Native.Nat.{_+_, _-_, _<_, _≤_};
 ghost use lib.ListN.{length, set as withElement};
 ghost use lib.Seq.{sets};
+ghost use lib.Dec.{ltb};
+ghost use Rattle.answer.specs.Tests.{pick};
 ghost use Rattle.answer.specs.Checks.{_unless_, passes as passesAll};
 ghost use Rattle.answer.specs.declared.Verdict.the-variants.{Pass};
 ghost use Rattle.wire.specs.Field.{bytesOf};
-ghost use Rattle.registers.specs.Rows.{rowCount, kindOf, selectorOf, sizeOf, rowOf, listed, selectorWidth};
+ghost use Rattle.registers.specs.Rows.{CommonField, rowCount, kindOf, selectorOf, sizeOf, rowOf, listed, selectorWidth};
 ghost use Rattle.registers.specs.Values.{offered as offeredBits, onlyOffered, powerOfTwo, validQueue, contentChecks, valueChecks};
 ghost use Rattle.registers.specs.File.{current as currentIn, reset as resetFile, soundValue, soundFile, valueIn, fileOf, registerOf, slotsOf};
 ghost use Rattle.registers.specs.Access.{selectorChecks, setChecks, readChecks, readValue};
@@ -47,10 +49,8 @@ pub const ROWS: usize = 15;
 
 pub const STATUS_ROW: usize = 6;
 
-const SELECTORS: [u64; 15] = [0, 0, 0, 8, 16, 22, 0, 0, 1, 2, 3, 0, 1, 2, 3];
-
-// Types and sizes go by ranges of rows: soundness asks for both of every register in every call, and a constant table that is indexed is
-// built anew on the stack each time.
+// Types, selector numbers and sizes go by ranges of rows: soundness asks for types and sizes in every call, and a constant table that is
+// indexed is built anew on the stack each time.
 pub fn kind_of(row: usize) -> u64
     requires { ⌜ row < rowCount ⌝ }
     ensures { λ r. ⌜ r ≡ kindOf row ⌝ }
@@ -77,7 +77,25 @@ pub fn selector_of(row: usize) -> u64
     requires { ⌜ row < rowCount ⌝ }
     ensures { λ r. ⌜ r ≡ selectorOf row ⌝ }
 {
-    SELECTORS[row]
+    if row < 3 {
+        return 0;
+    }
+    if row < 4 {
+        return 8;
+    }
+    if row < 5 {
+        return 16;
+    }
+    if row < 6 {
+        return 22;
+    }
+    if row < 7 {
+        return 0;
+    }
+    if row < 11 {
+        return row as u64 - 7;
+    }
+    row as u64 - 11
 }
 
 pub fn size_of(row: usize) -> usize
@@ -102,20 +120,44 @@ pub fn size_of(row: usize) -> usize
     8
 }
 
+// The row of a common field at an offset, or `ROWS`.
+fn common_row(offset: u64) -> usize
+    ensures { λ r. ⌜ r ≡ rowOf CommonField offset ⌝ }
+{
+    match offset {
+        0 => 2,
+        8 => 3,
+        16 => 4,
+        22 => 5,
+        _ => ROWS,
+    }
+}
+
+// The row of a selector number among the `count` rows of a type from `first` on, or `ROWS`.
+fn row_among(first: usize, count: u64, selector: u64) -> usize
+    requires { ⌜ first + count ≤ rowCount ⌝ }
+    ensures { λ r. ⌜ r ≡ pick (ltb selector count) (first + selector) rowCount ⌝ }
+{
+    if selector < count {
+        first + selector as usize
+    } else {
+        ROWS
+    }
+}
+
 // The row of a type and a selector number, or `ROWS`.
 pub fn row_of(kind: u64, selector: u64) -> usize
     ensures { λ r. ⌜ r ≡ rowOf kind selector ⌝ }
 {
-    let mut i: usize = 0;
-    while i < ROWS {
-        if kind_of(i) == kind {
-            if selector_of(i) == selector {
-                return i;
-            }
-        }
-        i += 1;
+    match kind {
+        OFFERED_FEATURES => row_among(0, 1, selector),
+        DRIVER_FEATURES => row_among(1, 1, selector),
+        COMMON_FIELD => common_row(selector),
+        DEVICE_STATUS => row_among(STATUS_ROW, 1, selector),
+        QUEUE_CONFIG => row_among(7, 4, selector),
+        NOTIFY_CONFIG => row_among(11, 4, selector),
+        _ => ROWS,
     }
-    i
 }
 
 pub fn is_listed(kind: u64) -> bool
@@ -147,14 +189,15 @@ fn only_offered(features: u64) -> bool
     features & OFFERED == features
 }
 
-// A power of two from 1 to 256: a divisor of 256.
+// A power of two from 1 to 256.
 fn is_power_of_two(n: u16) -> bool
     ensures { λ r. ⌜ r ≡ powerOfTwo 8 n ⌝ }
 {
-    if n == 0 {
-        return false;
+    match n {
+        1 => true,
+        2 | 4 | 8 | 16 | 32 | 64 | 128 | 256 => true,
+        _ => false,
     }
-    256 % n == 0
 }
 
 fn is_valid_queue(v: &[u8]) -> bool
@@ -286,7 +329,7 @@ fn passes(verdict: Verdict) -> bool
     }
 }
 
-// Whether a register is not set, or holds a value that setting accepts.
+// Whether a register is not set, or holds a value that setting accepts: its length is right, being the row's.
 fn is_sound(row: usize, r: Register) -> bool
     requires { ⌜ (row < rowCount) × (length (r .bytes) ≡ 32) ⌝ }
     ensures { λ x. ⌜ x ≡ soundValue row (valueIn row r) ⌝ }
@@ -296,10 +339,12 @@ fn is_sound(row: usize, r: Register) -> bool
     }
     let size = size_of(row);
     let bytes = r.bytes;
-    passes(check_value(row, false, &bytes[..size]))
+    passes(check_content(row, &bytes[..size]))
 }
 
-// Whether status is set, and every set register holds a value that setting accepts.
+// Whether status is set, and every set register holds a value that setting accepts. Every call asks this, so only the registers whose
+// type has a rule are looked at: features, queues and notify values. The compiler unrolls so short a loop, and then makes no copy of the
+// registers.
 pub fn sound(registers: Registers) -> bool
     ensures { λ r. ⌜ r ≡ soundFile (fileOf registers) ⌝ }
 {
@@ -308,9 +353,13 @@ pub fn sound(registers: Registers) -> bool
     if !status.set {
         return false;
     }
-    let mut i: usize = 0;
+    let features = slots[0];
+    if !is_sound(1, features) {
+        return false;
+    }
+    let mut i: usize = 6;
     while i < 14 {
-        let r = whole(slots[i]);
+        let r = slots[i];
         if !is_sound(i + 1, r) {
             return false;
         }

@@ -1,70 +1,72 @@
--- `registers::row_of` meets its contract: the rows before `i` are others.
-use Prim.Native.Nat.{_-_, _≤_}
+-- `registers::row_of` meets its contract, type by type.
 use native.Mathlib.Omega.{arith}
-use mathlib.Core.Path.{_≡_, refl, sym, _∙_}
-use mathlib.Core.Logic.{⊎-elim}
-use Rattle.registers.specs.Rows.{rowCount, rowOf, rowFrom}
-use Rattle.registers.proofs.Rows.{row-here, other-kind, other-selector, row-none}
+use mathlib.Core.Path.{refl, _∙_}
+use Rattle.answer.specs.Tests.{_and_, _or_, pick}
+use Rattle.answer.proofs.Tests.{below}
+use Rattle.registers.specs.Rows.{kindOf, selectorOf, rowFrom, rowOf}
+use Rattle.registers.proofs.Rows.{among, no-row, kind-listed}
 use borrow.Author.Needs.{needs}
 use Rattle.registers.proofs.row_of.Statement.{statement}
 use Rattle.registers.proofs.row_of.Tie as tie
 
-abbrev Inv-loop : tie.InvT-loop
-Inv-loop kind selector i₀ i = (i ≤ rowCount) × (rowOf kind selector ≡ rowFrom kind selector i (rowCount - i))
+row-among-requires : tie.Need-row-among-requires
+row-among-requires c κs = search needs
 
-abbrev μ-loop : tie.MeasureT-loop
-μ-loop kind selector i₀ i = rowCount - i
+row-among-requires-2 : tie.Need-row-among-requires-2
+row-among-requires-2 c κs = search needs
 
-loop-holds : tie.Need-loop-holds Inv-loop μ-loop
-unfolding rowOf
-loop-holds c = (omega arith, refl)
+common-row-requires : tie.Need-common-row-requires
+common-row-requires c κs = search needs
 
-kind-of-requires : tie.Need-kind-of-requires Inv-loop μ-loop
-kind-of-requires c κs = search needs
+row-among-requires-3 : tie.Need-row-among-requires-3
+row-among-requires-3 c κs = search needs
 
-selector-of-requires : tie.Need-selector-of-requires Inv-loop μ-loop
-selector-of-requires c κs = search needs
+row-among-requires-4 : tie.Need-row-among-requires-4
+row-among-requires-4 c κs = search needs
 
-returns : tie.Need-returns Inv-loop μ-loop
-returns c =
-    let k = c .before .before .before in
-    let l = k .before .before in
-    sym (l .loop .inv .1 ∙ row-here _ _ (l .loop .i) (k .before .loop-test .taken) (sym (k .kind-of .ensures) ∙ c .before .before .if1 .taken) (sym (c .before .selector-of .ensures) ∙ c .if2 .taken))
+row-among-requires-5 : tie.Need-row-among-requires-5
+row-among-requires-5 c κs = search needs
 
-add-i : tie.Need-add-i Inv-loop μ-loop
-add-i c = search needs
+returns : tie.Need-returns
+unfolding rowOf rowFrom kindOf selectorOf below _and_ _or_ pick
+returns c = c .row-among .ensures ∙ rw (c .before .match .keys1) (among 0x100 0 1 refl refl (c .before .before .args .selector))
 
-loop-less : tie.Need-loop-less Inv-loop μ-loop
-loop-less c = search needs
+returns-2 : tie.Need-returns-2
+unfolding rowOf rowFrom kindOf selectorOf below _and_ _or_ pick
+returns-2 c = c .row-among2 .ensures ∙ rw (c .before .match .keys2) (among 0x101 1 1 refl refl (c .before .before .args .selector))
 
-loop-again : tie.Need-loop-again Inv-loop μ-loop
-loop-again c =
-    let k = c .before in
-    let l = k .before .before in
-    let t = k .before .loop-test .taken in
-    let e = k .kind-of .ensures in (
-      omega arith,
-      l .loop .inv .1
-          ∙ ⊎-elim (λ w. other-selector _ _ (l .loop .i) t (sym e ∙ w .0 .taken) (λ q. w .2 .left (w .1 .ensures ∙ q)))
-          (λ w. other-kind _ _ (l .loop .i) t (λ q. w .left (e ∙ q))) (c .if1 .came),
-    )
+returns-3 : tie.Need-returns-3
+returns-3 c = rw (c .before .match .keys3) (c .common-row .ensures)
 
-returns-2 : tie.Need-returns-2 Inv-loop μ-loop
-returns-2 c =
-    let l = c .before in
-    sym (l .loop .inv .1 ∙ row-none _ _ (l .loop .i) (c .loop-test .left))
+returns-4 : tie.Need-returns-4
+unfolding rowOf rowFrom kindOf selectorOf below _and_ _or_ pick
+returns-4 c = c .row-among3 .ensures ∙ rw (c .before .match .keys4) (among 0x103 6 1 refl refl (c .before .before .args .selector))
+
+returns-5 : tie.Need-returns-5
+unfolding rowOf rowFrom kindOf selectorOf below _and_ _or_ pick
+returns-5 c = c .row-among4 .ensures ∙ rw (c .before .match .keys5) (among 0x104 7 4 refl refl (c .before .before .args .selector))
+
+returns-6 : tie.Need-returns-6
+unfolding rowOf rowFrom kindOf selectorOf below _and_ _or_ pick
+returns-6 c = c .row-among5 .ensures ∙ rw (c .before .match .keys6) (among 0x105 11 4 refl refl (c .before .before .args .selector))
+
+returns-7 : tie.Need-returns-7
+returns-7 c = no-row _ _ (λ i lt p q. omega (arith, kind-listed i lt))
 
 pub row-of-spec : {M : Type 1} → statement M
 row-of-spec =
     tie.close
     (tie.spec
-    Inv-loop
-    μ-loop
-    loop-holds
-    kind-of-requires
-    selector-of-requires
+    row-among-requires
+    row-among-requires-2
+    common-row-requires
+    row-among-requires-3
+    row-among-requires-4
+    row-among-requires-5
     returns
-    add-i
-    loop-less
-    loop-again
-    returns-2)
+    returns-2
+    returns-3
+    returns-4
+    returns-5
+    returns-6
+    returns-7)
