@@ -112,17 +112,18 @@ pub features-room : (file : File) → headerSize + sizeOf 0 ≤ length (saved fi
 unfolding saved
 features-room file = omega (arith, count-part file 0 (omega arith) features (features-row file) features-whole features-set)
 
--- the register that is kept for a row, as code reads it
-pub kept-row : (slots : List Register) (i : ℕ) → 0 < i → (r : Register) → (r ≡ getD slots (i - 1) absent) × (length (getD slots (i - 1) absent .bytes) ≡ 32)
-    → (valueIn i r ≡ current (fileOf (record { slots = slots })) i) × (length (r .bytes) ≡ 32)
-kept-row slots i h r e =
-    (ap (valueIn i) (e .0) ∙ sym (current-kept (record { slots = slots }) i h), ap (λ (x : Register). length (x .bytes)) (e .0) ∙ e .1)
+-- the register in a slot, as code reads it
+pub kept-row : (slots : List Register) (i : ℕ) (r : Register) → (r ≡ getD slots i absent) × (length (getD slots i absent .bytes) ≡ 32)
+    → (valueIn (i + 1) r ≡ current (fileOf (record { slots = slots })) (i + 1)) × (length (r .bytes) ≡ 32)
+kept-row slots i r e =
+    let at : i + 1 - 1 ≡ i = omega arith in
+    let shown = current-kept (record { slots = slots }) (i + 1) (omega arith) in
+    (ap (valueIn (i + 1)) (e .0) ∙ sym (rw at at shown), ap (λ (x : Register). length (x .bytes)) (e .0) ∙ e .1)
 
 -- ---- the loop that counts
 
 -- at its head: `n` bytes and those of the rows from `i` on are all
 pub record Count (file : File) (n i : ℕ) : Type 0 where
-  pub some : 0 < i
   pub most : i ≤ rowCount
   pub small : n ≤ 48 * i
   pub all : n + length (rest file i) ≡ length (saved file)
@@ -131,7 +132,7 @@ pub count-start : (file : File) → Count file (headerSize + sizeOf 0) 1
 unfolding saved
 count-start file =
     let most = size-most 0 (omega arith) in
-    record { some = omega arith; most = omega arith; small = omega arith; all = omega (arith, count-part file 0 (omega arith) features (features-row file) features-whole features-set) }
+    record { most = omega arith; small = omega arith; all = omega (arith, count-part file 0 (omega arith) features (features-row file) features-whole features-set) }
 
 module _ (file : File) (n i : ℕ) (h : Count file n i) where
   pub count-end : rowCount ≤ i → n ≡ length (saved file)
@@ -140,12 +141,11 @@ module _ (file : File) (n i : ℕ) (h : Count file n i) where
   module _ (lt : i < rowCount) (r : Register) (is : valueIn i r ≡ current file i) where
     pub count-none : r .set ≡ false → (n′ : ℕ) → n′ ≡ n → Count file n′ (i + 1)
     count-none e n′ same =
-        record { some = omega arith; most = omega arith; small = omega (arith, h .small); all = omega (arith, h .all, ap length (rest-none file i lt r is e)) }
+        record { most = omega arith; small = omega (arith, h .small); all = omega (arith, h .all, ap length (rest-none file i lt r is e)) }
 
     pub count-more : length (r .bytes) ≡ 32 → r .set ≡ true → (n′ : ℕ) → n′ ≡ n + headerSize + sizeOf i → Count file n′ (i + 1)
     count-more whole e n′ more =
         record {
-          some = omega arith;
           most = omega arith;
           small = omega (arith, h .small, size-most i lt);
           all = omega (arith, h .all, count-part file i lt r is whole e);
@@ -156,7 +156,6 @@ module _ (file : File) (n i : ℕ) (h : Count file n i) where
 -- at its head: the parts of the rows from `i` on, written from `p` on, make of the buffer what those of the rows that are kept make of the
 -- one that has the part of offered features
 pub record Left (file : File) (buf₀ buf : List ℕ) (p i : ℕ) : Type 0 where
-  pub some : 0 < i
   pub most : i ≤ rowCount
   pub same : length buf ≡ length buf₀
   pub count : p + length (rest file i) ≡ length (saved file)
@@ -165,7 +164,6 @@ pub record Left (file : File) (buf₀ buf : List ℕ) (p i : ℕ) : Type 0 where
 pub left-start : (file : File) (buf : List ℕ) → Left file buf buf (headerSize + sizeOf 0) 1
 unfolding saved
 left-start file buf = record {
-  some = omega arith;
   most = omega arith;
   same = refl;
   count = omega (arith, count-part file 0 (omega arith) features (features-row file) features-whole features-set);
@@ -191,7 +189,6 @@ module _ (file : File) (buf₀ buf : List ℕ) (p i : ℕ) (h : Left file buf₀
         let none = rest-none file i lt r is e in
         rw (b, q)
         record {
-          some = omega arith;
           most = omega arith;
           same = h .same;
           count = omega (arith, h .count, ap length none);
@@ -207,7 +204,6 @@ module _ (file : File) (buf₀ buf : List ℕ) (p i : ℕ) (h : Left file buf₀
       left-more buf′ p′ b q =
           let part = encoded i (take (sizeOf i) (r .bytes)) in
           record {
-            some = omega arith;
             most = omega arith;
             same = ap length b ∙ length-sets buf p part ∙ h .same;
             count = omega (arith, h .count, count-part file i lt r is whole e);

@@ -283,13 +283,13 @@ fn saved_length(registers: Registers) -> usize
 {
     let slots = registers.slots;
     let mut n: usize = HEADER_SIZE + registers::size_of(0);
-    let mut row: usize = 1;
-    while row < registers::ROWS {
-        let r = registers::whole(slots[row - 1]);
+    let mut i: usize = 0;
+    while i < 14 {
+        let r = registers::whole(slots[i]);
         if r.set {
-            n = n + HEADER_SIZE + registers::size_of(row);
+            n = n + HEADER_SIZE + registers::size_of(i + 1);
         }
-        row += 1;
+        i += 1;
     }
     n
 }
@@ -317,14 +317,14 @@ pub fn save(registers: Registers, buf: &mut [u8]) -> usize
     let features = registers::offered();
     put_part(buf, 0, 0, features);
     let mut at: usize = HEADER_SIZE + registers::size_of(0);
-    let mut row: usize = 1;
-    while row < registers::ROWS {
-        let r = registers::whole(slots[row - 1]);
+    let mut i: usize = 0;
+    while i < 14 {
+        let r = registers::whole(slots[i]);
         if r.set {
-            put_part(buf, at, row, r);
-            at = at + HEADER_SIZE + registers::size_of(row);
+            put_part(buf, at, i + 1, r);
+            at = at + HEADER_SIZE + registers::size_of(i + 1);
         }
-        row += 1;
+        i += 1;
     }
     at
 }

@@ -1,11 +1,11 @@
--- `parts::save` meets its contract: the parts of the rows before `row` are written.
+-- `parts::save` meets its contract: the parts of the slots before `i` are written, and of row 0.
 use Prim.Native.Nat.{ℕ, _+_, _-_, _≤_}
 use native.Mathlib.Omega.{arith}
 use mathlib.Core.Path.{_≡_, _∙_, ap}
 use mathlib.Core.Logic.{⊎-elim}
 use lib.ListN.{length, take}
 use lib.Seq.{sets, length-sets}
-use Rattle.registers.specs.Rows.{rowCount, sizeOf}
+use Rattle.registers.specs.Rows.{sizeOf}
 use Rattle.registers.specs.File.{current, valueIn, fileOf}
 use Rattle.registers.proofs.Rows.{size-most}
 use Rattle.parts.specs.Save.{encoded}
@@ -15,10 +15,10 @@ use Rattle.parts.proofs.save.Statement.{statement}
 use Rattle.parts.proofs.save.Tie as tie
 
 abbrev Inv-loop : tie.InvT-loop
-Inv-loop buf₀ slots at₀ row₀ buf at row = Left (fileOf (record { slots = slots })) buf₀ buf at row
+Inv-loop buf₀ slots at₀ i₀ buf at i = Left (fileOf (record { slots = slots })) buf₀ buf at (i + 1)
 
 abbrev μ-loop : tie.MeasureT-loop
-μ-loop buf₀ slots at₀ row₀ buf at row = rowCount - row
+μ-loop buf₀ slots at₀ i₀ buf at i = 14 - i
 
 offered-requires : tie.Need-offered-requires Inv-loop μ-loop
 offered-requires c κs = search needs
@@ -36,9 +36,6 @@ add-at c = omega (arith, c .size-of .ensures, size-most 0 (omega arith))
 
 loop-holds : tie.Need-loop-holds Inv-loop μ-loop
 loop-holds c = rw (c .size-of .ensures) (left-start _ _)
-
-sub-whole : tie.Need-sub-whole Inv-loop μ-loop
-sub-whole c = omega (arith, c .before .loop .inv .some)
 
 mul-whole : tie.Need-mul-whole Inv-loop μ-loop
 mul-whole c = search needs
@@ -64,32 +61,38 @@ long c =
 kept : (c : tie.After-whole Inv-loop μ-loop)
     → let l = c .before .before .before in
     let a = l .before .before .before .before .before .before .before .before .before .args in
-    (valueIn (l .loop .row) (c .whole .result) ≡ current (fileOf (a .registers)) (l .loop .row)) × (length (c .whole .result .bytes) ≡ 32)
+    (valueIn (l .loop .i + 1) (c .whole .result) ≡ current (fileOf (a .registers)) (l .loop .i + 1)) × (length (c .whole .result .bytes) ≡ 32)
 kept c =
     let l = c .before .before .before in
     let a = l .before .before .before .before .before .before .before .before .before .args in
-    kept-row (a .registers .slots) (l .loop .row) (l .loop .inv .some) (c .whole .result) (c .whole .ensures)
+    kept-row (a .registers .slots) (l .loop .i) (c .whole .result) (c .whole .ensures)
 
 -- the part of a row has room in the buffer
 room : (c : tie.Then1 Inv-loop μ-loop)
     → let l = c .before .before .before .before in
-    l .loop .at + 16 + sizeOf (l .loop .row) ≤ length (l .loop .buf)
+    l .loop .at + 16 + sizeOf (l .loop .i + 1) ≤ length (l .loop .buf)
 room c =
     let m = c .before in
     let l = m .before .before .before in
     let e = kept m in
-    let fits = left-room _ _ _ _ _ (l .loop .inv) (m .before .before .loop-test .taken) (m .whole .result) (e .0) (e .1) (c .if1 .taken) in
+    let fits = left-room _ _ _ _ _ (l .loop .inv) (omega (arith, m .before .before .loop-test .taken)) (m .whole .result) (e .0) (e .1) (c .if1 .taken) in
     let p = l .before .before .before .before in
     let given = p .before .before .before .before .before .pre in
     omega (arith, l .loop .inv .same, long p)
 
+add-put-part : tie.Need-add-put-part Inv-loop μ-loop
+add-put-part c = search needs
+
 put-part-requires-2 : tie.Need-put-part-requires-2 Inv-loop μ-loop
 put-part-requires-2 c κs =
     let m = c .before .before in
-    (m .before .before .loop-test .taken, kept m .1, room (c .before))
+    (omega (arith, m .before .before .loop-test .taken), kept m .1, room (c .before))
 
 add-at-2 : tie.Need-add-at-2 Inv-loop μ-loop
 add-at-2 c = omega (arith, room (c .before .before .before .before))
+
+add-size-of : tie.Need-add-size-of Inv-loop μ-loop
+add-size-of c = search needs
 
 size-of-requires-2 : tie.Need-size-of-requires-2 Inv-loop μ-loop
 size-of-requires-2 c κs = search needs
@@ -97,8 +100,8 @@ size-of-requires-2 c κs = search needs
 add-at-3 : tie.Need-add-at-3 Inv-loop μ-loop
 add-at-3 c = omega (arith, c .size-of2 .ensures, room (c .before .before .before .before .before))
 
-add-row : tie.Need-add-row Inv-loop μ-loop
-add-row c = search needs
+add-i : tie.Need-add-i Inv-loop μ-loop
+add-i c = search needs
 
 loop-less : tie.Need-loop-less Inv-loop μ-loop
 loop-less c = search needs
@@ -108,10 +111,9 @@ loop-again c =
     let m = c .before in
     let l = m .before .before .before in
     let e = kept m in
-    let here = m .before .before .loop-test .taken in
     ⊎-elim
-    (λ w. left-more _ _ _ _ _ (l .loop .inv) here (m .whole .result) (e .0) (e .1) (w .0 .taken) _ _ (w .6 ∙ w .2 .ensures) (w .7 ∙ ap (λ (z : ℕ). l .loop .at + 16 + z) (w .5 .ensures)))
-    (λ w. left-none _ _ _ _ _ (l .loop .inv) here (m .whole .result) (e .0) (w .0 .left) _ _ (w .1) (w .2))
+    (λ w. left-more _ _ _ _ _ (l .loop .inv) (omega (arith, m .before .before .loop-test .taken)) (m .whole .result) (e .0) (e .1) (w .0 .taken) _ _ (w .6 ∙ w .2 .ensures) (w .7 ∙ ap (λ (z : ℕ). l .loop .at + 16 + z) (w .5 .ensures)))
+    (λ w. left-none _ _ _ _ _ (l .loop .inv) (omega (arith, m .before .before .loop-test .taken)) (m .whole .result) (e .0) (w .0 .left) _ _ (w .1) (w .2))
     (c .if1 .came)
 
 same-length : tie.Need-same-length Inv-loop μ-loop
@@ -124,7 +126,7 @@ returns : tie.Need-returns Inv-loop μ-loop
 returns c =
     let l = c .before in
     let p = l .before .before .before .before in
-    let e = left-end _ _ _ _ _ (l .loop .inv) (c .loop-test .left) in
+    let e = left-end _ _ _ _ _ (l .loop .inv) (omega arith) in
     (e .0 ∙ rw (first p) (left-all _ _), e .1)
 
 pub save-spec : {M : Type 1} → statement M
@@ -138,15 +140,16 @@ save-spec =
     size-of-requires
     add-at
     loop-holds
-    sub-whole
     mul-whole
     array-copy-out-whole
     whole-requires
+    add-put-part
     put-part-requires-2
     add-at-2
+    add-size-of
     size-of-requires-2
     add-at-3
-    add-row
+    add-i
     loop-less
     loop-again
     same-length

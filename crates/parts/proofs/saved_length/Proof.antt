@@ -1,9 +1,8 @@
--- `parts::saved_length` meets its contract: the rows before `row` are counted.
+-- `parts::saved_length` meets its contract: the slots before `i` are counted, and row 0.
 use Prim.Native.Nat.{ℕ, _+_, _-_}
 use native.Mathlib.Omega.{arith}
 use mathlib.Core.Path.{_∙_, ap}
 use mathlib.Core.Logic.{⊎-elim}
-use Rattle.registers.specs.Rows.{rowCount}
 use Rattle.registers.specs.File.{fileOf}
 use Rattle.registers.proofs.Rows.{size-most}
 use Rattle.parts.proofs.Saving.{kept-row, Count, count-start, count-end, count-none, count-more}
@@ -12,10 +11,10 @@ use Rattle.parts.proofs.saved_length.Statement.{statement}
 use Rattle.parts.proofs.saved_length.Tie as tie
 
 abbrev Inv-loop : tie.InvT-loop
-Inv-loop slots n₀ row₀ n row = Count (fileOf (record { slots = slots })) n row
+Inv-loop slots n₀ i₀ n i = Count (fileOf (record { slots = slots })) n (i + 1)
 
 abbrev μ-loop : tie.MeasureT-loop
-μ-loop slots n₀ row₀ n row = rowCount - row
+μ-loop slots n₀ i₀ n i = 14 - i
 
 size-of-requires : tie.Need-size-of-requires Inv-loop μ-loop
 size-of-requires c κs = search needs
@@ -25,9 +24,6 @@ add-n c = omega (arith, c .size-of .ensures, size-most 0 (omega arith))
 
 loop-holds : tie.Need-loop-holds Inv-loop μ-loop
 loop-holds c = rw (c .size-of .ensures) (count-start _)
-
-sub-whole : tie.Need-sub-whole Inv-loop μ-loop
-sub-whole c = omega (arith, c .before .loop .inv .some)
 
 mul-whole : tie.Need-mul-whole Inv-loop μ-loop
 mul-whole c = search needs
@@ -41,16 +37,19 @@ whole-requires c κs = search needs
 add-n-2 : tie.Need-add-n-2 Inv-loop μ-loop
 add-n-2 c = omega (arith, c .before .before .before .before .loop .inv .small)
 
+add-size-of : tie.Need-add-size-of Inv-loop μ-loop
+add-size-of c = search needs
+
 size-of-requires-2 : tie.Need-size-of-requires-2 Inv-loop μ-loop
 size-of-requires-2 c κs = search needs
 
 add-n-3 : tie.Need-add-n-3 Inv-loop μ-loop
 add-n-3 c =
     let l = c .before .before .before .before .before in
-    omega (arith, l .loop .inv .small, c .size-of2 .ensures, size-most (l .loop .row) (omega arith))
+    omega (arith, l .loop .inv .small, c .size-of2 .ensures, size-most (l .loop .i + 1) (omega arith))
 
-add-row : tie.Need-add-row Inv-loop μ-loop
-add-row c = search needs
+add-i : tie.Need-add-i Inv-loop μ-loop
+add-i c = search needs
 
 loop-less : tie.Need-loop-less Inv-loop μ-loop
 loop-less c = search needs
@@ -59,14 +58,14 @@ loop-again : tie.Need-loop-again Inv-loop μ-loop
 loop-again c =
     let m = c .before in
     let l = m .before .before .before in
-    let e = kept-row _ _ (l .loop .inv .some) (m .whole .result) (m .whole .ensures) in
+    let e = kept-row _ _ (m .whole .result) (m .whole .ensures) in
     ⊎-elim
-    (λ w. count-more _ _ _ (l .loop .inv) (m .before .before .loop-test .taken) (m .whole .result) (e .0) (e .1) (w .0 .taken) _ (w .2 ∙ ap (λ (z : ℕ). l .loop .n + 16 + z) (w .1 .ensures)))
-    (λ w. count-none _ _ _ (l .loop .inv) (m .before .before .loop-test .taken) (m .whole .result) (e .0) (w .0 .left) _ (w .1))
+    (λ w. count-more _ _ _ (l .loop .inv) (omega (arith, m .before .before .loop-test .taken)) (m .whole .result) (e .0) (e .1) (w .0 .taken) _ (w .2 ∙ ap (λ (z : ℕ). l .loop .n + 16 + z) (w .1 .ensures)))
+    (λ w. count-none _ _ _ (l .loop .inv) (omega (arith, m .before .before .loop-test .taken)) (m .whole .result) (e .0) (w .0 .left) _ (w .1))
     (c .if1 .came)
 
 returns : tie.Need-returns Inv-loop μ-loop
-returns c = count-end _ _ _ (c .before .loop .inv) (c .loop-test .left)
+returns c = count-end _ _ _ (c .before .loop .inv) (omega arith)
 
 pub saved-length-spec : {M : Type 1} → statement M
 saved-length-spec =
@@ -77,14 +76,14 @@ saved-length-spec =
     size-of-requires
     add-n
     loop-holds
-    sub-whole
     mul-whole
     array-copy-out-whole
     whole-requires
     add-n-2
+    add-size-of
     size-of-requires-2
     add-n-3
-    add-row
+    add-i
     loop-less
     loop-again
     returns)
