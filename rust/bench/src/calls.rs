@@ -4,8 +4,7 @@
 
 use std::hint::black_box;
 
-use glint_boundary as emulator;
-use glint_boundary::State;
+use glintbasket::raw::{self as emulator, State};
 
 use crate::plain;
 use crate::world::World;
@@ -122,21 +121,21 @@ const STORES: &[(&str, Program)] = &[
 
 #[inline(always)]
 fn copy_out(w: &mut World) -> Accepted {
-    let place = w.address as usize;
+    let place = w.address.0 as usize;
     w.buffer.get_mut()[..w.size].copy_from_slice(&w.memory.get()[place..place + w.size]);
     true
 }
 
 #[inline(always)]
 fn copy_in(w: &mut World) -> Accepted {
-    let place = w.address as usize;
+    let place = w.address.0 as usize;
     w.memory.get_mut()[place..place + w.size].copy_from_slice(&w.buffer.get()[..w.size]);
     true
 }
 
 #[inline(always)]
 fn mark(w: &mut World) -> Accepted {
-    let place = w.address as usize;
+    let place = w.address.0 as usize;
     w.marks.get_mut()[place..place + w.size].fill(1);
     true
 }

@@ -1,15 +1,12 @@
 //! What a Rust programmer would write for the same calls: the same checks in the same order, on
 //! the state by reference, run by run, with the standard library's copies and fills.
 
-use glint_boundary::{Mapping, Register, Registers, State, Table, CAPACITY, REGISTERS};
+use glintbasket::raw::{REGISTERS, SLOTS};
+use glintbasket::{
+    DeviceAddress, Mapping, MemoryAddress, Register, Registers, Rights, State, Table, DEVICE_LIMIT,
+    MAPPINGS, MEMORY_LIMIT, PAGE_SIZE, TRANSFER_LIMIT,
+};
 
-const PAGE: u64 = 4096;
-const DEVICE_LIMIT: u64 = 1 << 48;
-const MEMORY_LIMIT: u64 = 1 << 30;
-const LENGTH_LIMIT: usize = 65536;
-
-const READ: u32 = 1;
-const WRITE: u32 = 2;
 const WRITTEN: u8 = 1;
 
 #[derive(Clone, Copy, Debug, PartialEq, Eq)]
@@ -31,7 +28,7 @@ fn refuse<T>(code: u32) -> Answer<T> {
 // ---- refusal 1
 
 fn sound(state: &State) -> bool {
-    state.memory_length <= MEMORY_LIMIT
+    state.memory_length <= MEMORY_LIMIT as u64
         && sound_table(&state.table, state.memory_length)
         && sound_registers(&state.registers)
 }
@@ -42,22 +39,27 @@ fn sound_table(table: &Table, length: u64) -> bool {
     };
     let mut low = 0;
     for m in held {
-        if m.device < low || !sound_mapping(m, length) {
+        if m.device.0 < low || !sound_mapping(m, length) {
             return false;
         }
-        low = m.device + m.size;
+        low = end_of(m);
     }
     true
 }
 
 /// Subtractions stand where sums could wrap: a size is at most the length, which is at most 2^30.
 fn sound_mapping(m: &Mapping, length: u64) -> bool {
-    (m.device | m.memory | m.size).is_multiple_of(PAGE)
+    (m.device.0 | m.memory.0 | m.size).is_multiple_of(PAGE_SIZE)
         && m.size != 0
         && m.size <= length
-        && m.memory <= length - m.size
-        && m.device <= DEVICE_LIMIT - m.size
-        && (1..=3).contains(&m.rights)
+        && m.memory.0 <= length - m.size
+        && m.device.0 <= DEVICE_LIMIT - m.size
+        && (1..=3).contains(&m.rights.0)
+}
+
+/// The device address behind a mapping that is sound.
+fn end_of(m: &Mapping) -> u64 {
+    m.device.0 + m.size
 }
 
 const STATUS: usize = 5;
@@ -77,40 +79,40 @@ fn usable(state: &State, memory: &[u8], marks: &[u8]) -> bool {
 
 // ---- moves
 
-fn check_range(device: u64, length: usize) -> Answer<()> {
-    if length > LENGTH_LIMIT {
+fn check_range(device: DeviceAddress, length: usize) -> Answer<()> {
+    if length > TRANSFER_LIMIT {
         return refuse(13);
     }
-    if device > DEVICE_LIMIT - length as u64 {
+    if device.0 > DEVICE_LIMIT - length as u64 {
         return refuse(9);
     }
     Ok(())
 }
 
 /// The held mappings from the first one on that ends past a device address.
-fn from(table: &Table, device: u64) -> &[Mapping] {
+fn from(table: &Table, device: DeviceAddress) -> &[Mapping] {
     let held = &table.entries[..table.count];
-    &held[held.partition_point(|m| m.device + m.size <= device)..]
+    &held[held.partition_point(|m| end_of(m) <= device.0)..]
 }
 
 /// Calls `run` with the offset, the place in memory, the length and the rights of each run.
 fn runs(
     table: &Table,
-    device: u64,
+    device: DeviceAddress,
     length: usize,
-    mut run: impl FnMut(usize, usize, usize, u32) -> Answer<()>,
+    mut run: impl FnMut(usize, usize, usize, Rights) -> Answer<()>,
 ) -> Answer<()> {
     let mut offset = 0;
     let mut mappings = from(table, device).iter();
     while offset < length {
-        let address = device + offset as u64;
+        let address = device.0 + offset as u64;
         let m = match mappings.next() {
-            Some(m) if m.device <= address => m,
+            Some(m) if m.device.0 <= address => m,
             _ => return at(14, offset as u64),
         };
-        let skip = address - m.device;
+        let skip = address - m.device.0;
         let n = (m.size - skip).min((length - offset) as u64) as usize;
-        run(offset, (m.memory + skip) as usize, n, m.rights)?;
+        run(offset, (m.memory.0 + skip) as usize, n, m.rights)?;
         offset += n;
     }
     Ok(())
@@ -136,7 +138,7 @@ pub fn card_read(
     state: &State,
     memory: &[u8],
     marks: &[u8],
-    device: u64,
+    device: DeviceAddress,
     buffer: &mut [u8],
 ) -> Answer<u64> {
     if !usable(state, memory, marks) {
@@ -148,7 +150,7 @@ pub fn card_read(
         device,
         buffer.len(),
         |offset, place, n, rights| {
-            if rights & READ == 0 {
+            if !rights.contains(Rights::READ) {
                 return at(15, offset as u64);
             }
             match first_unwritten(&marks[place..place + n]) {
@@ -169,7 +171,7 @@ pub fn card_write(
     state: &State,
     memory: &mut [u8],
     marks: &mut [u8],
-    device: u64,
+    device: DeviceAddress,
     bytes: &[u8],
 ) -> Answer<u64> {
     if !usable(state, memory, marks) {
@@ -177,7 +179,7 @@ pub fn card_write(
     }
     check_range(device, bytes.len())?;
     runs(&state.table, device, bytes.len(), |offset, _, _, rights| {
-        if rights & WRITE == 0 {
+        if !rights.contains(Rights::WRITE) {
             return at(15, offset as u64);
         }
         Ok(())
@@ -190,14 +192,14 @@ pub fn card_write(
     Ok(0)
 }
 
-fn check_host(size: usize, address: u64, length: usize) -> Answer<usize> {
-    if length > LENGTH_LIMIT {
+fn check_host(size: usize, address: MemoryAddress, length: usize) -> Answer<usize> {
+    if length > TRANSFER_LIMIT {
         return refuse(13);
     }
-    if address > size as u64 || length > size - address as usize {
+    if address.0 > size as u64 || length > size - address.0 as usize {
         return refuse(9);
     }
-    Ok(address as usize)
+    Ok(address.0 as usize)
 }
 
 #[inline(never)]
@@ -205,7 +207,7 @@ pub fn host_store(
     state: &State,
     memory: &mut [u8],
     marks: &mut [u8],
-    address: u64,
+    address: MemoryAddress,
     bytes: &[u8],
 ) -> Answer<u64> {
     if !usable(state, memory, marks) {
@@ -222,7 +224,7 @@ pub fn host_load(
     state: &State,
     memory: &[u8],
     marks: &[u8],
-    address: u64,
+    address: MemoryAddress,
     buffer: &mut [u8],
 ) -> Answer<u64> {
     if !usable(state, memory, marks) {
@@ -237,15 +239,18 @@ pub fn host_load(
 }
 
 #[inline(never)]
-pub fn look_up(state: &State, device: u64) -> Answer<(u64, u32)> {
+pub fn look_up(state: &State, device: DeviceAddress) -> Answer<(MemoryAddress, Rights)> {
     if !sound(state) {
         return refuse(1);
     }
-    if device >= DEVICE_LIMIT {
+    if device.0 >= DEVICE_LIMIT {
         return refuse(9);
     }
     match from(&state.table, device).first() {
-        Some(m) if m.device <= device => Ok((m.memory + (device - m.device), m.rights)),
+        Some(m) if m.device <= device => {
+            let address = m.memory.0 + (device.0 - m.device.0);
+            Ok((MemoryAddress(address), m.rights))
+        }
         _ => refuse(14),
     }
 }
@@ -310,35 +315,32 @@ fn ends_within(start: u64, size: u64, limit: u64) -> bool {
 
 fn map(state: &mut State, buffer: &[u8]) -> Answer<u64> {
     let new = Mapping {
-        rights: u32_at(buffer, 4),
-        memory: u64_at(buffer, 8),
-        device: u64_at(buffer, 16),
+        rights: Rights(u32_at(buffer, 4)),
+        memory: MemoryAddress(u64_at(buffer, 8)),
+        device: DeviceAddress(u64_at(buffer, 16)),
         size: u64_at(buffer, 24),
     };
-    if !(1..=3).contains(&new.rights) {
+    if !(1..=3).contains(&new.rights.0) {
         return refuse(5);
     }
     if new.size == 0 {
         return refuse(8);
     }
-    if !(new.device | new.memory | new.size).is_multiple_of(PAGE) {
+    if !(new.device.0 | new.memory.0 | new.size).is_multiple_of(PAGE_SIZE) {
         return refuse(7);
     }
-    if !ends_within(new.device, new.size, DEVICE_LIMIT)
-        || !ends_within(new.memory, new.size, state.memory_length)
+    if !ends_within(new.device.0, new.size, DEVICE_LIMIT)
+        || !ends_within(new.memory.0, new.size, state.memory_length)
     {
         return refuse(9);
     }
     let table = &mut state.table;
     let held = &table.entries[..table.count];
-    let place = held.partition_point(|m| m.device + m.size <= new.device);
-    if held
-        .get(place)
-        .is_some_and(|m| m.device < new.device + new.size)
-    {
+    let place = held.partition_point(|m| end_of(m) <= new.device.0);
+    if held.get(place).is_some_and(|m| m.device.0 < end_of(&new)) {
         return refuse(10);
     }
-    if table.count == CAPACITY {
+    if table.count == MAPPINGS {
         return refuse(11);
     }
     table.entries.copy_within(place..table.count, place + 1);
@@ -355,7 +357,7 @@ fn unmap(state: &mut State, buffer: &mut [u8]) -> Answer<u64> {
     if size == 0 {
         return refuse(8);
     }
-    if !(device | size).is_multiple_of(PAGE) {
+    if !(device | size).is_multiple_of(PAGE_SIZE) {
         return refuse(7);
     }
     if !ends_within(device, size, DEVICE_LIMIT) {
@@ -364,11 +366,11 @@ fn unmap(state: &mut State, buffer: &mut [u8]) -> Answer<u64> {
     let table = &mut state.table;
     let held = &table.entries[..table.count];
     let end = device + size;
-    let first = held.partition_point(|m| m.device + m.size <= device);
-    let past = held.partition_point(|m| m.device < end);
+    let first = held.partition_point(|m| end_of(m) <= device);
+    let past = held.partition_point(|m| m.device.0 < end);
     let inside = &held[first..past];
     if let (Some(low), Some(high)) = (inside.first(), inside.last()) {
-        if low.device < device || high.device + high.size > end {
+        if low.device.0 < device || end_of(high) > end {
             return refuse(12);
         }
     }
@@ -386,23 +388,16 @@ const HEADER: usize = 16;
 const ROWS: usize = REGISTERS + 1;
 
 /// Type, selector and size of each register; row 0 is offered features, row `i + 1` slot `i`.
-const TABLE: [(u16, u64, usize); ROWS] = [
-    (0x100, 0, 8),
-    (0x101, 0, 8),
-    (0x102, 0, 4),
-    (0x102, 8, 4),
-    (0x102, 16, 2),
-    (0x102, 22, 2),
-    (0x103, 0, 1),
-    (0x104, 0, 32),
-    (0x104, 1, 32),
-    (0x104, 2, 32),
-    (0x104, 3, 32),
-    (0x105, 0, 8),
-    (0x105, 1, 8),
-    (0x105, 2, 8),
-    (0x105, 3, 8),
-];
+const TABLE: [(u16, u64, usize); ROWS] = {
+    let mut table = [(0x100, 0, 8); ROWS];
+    let mut slot = 0;
+    while slot < REGISTERS {
+        let (kind, selector, size) = SLOTS[slot];
+        table[slot + 1] = (kind as u16, selector, size);
+        slot += 1;
+    }
+    table
+};
 
 /// What a value of the right length must satisfy. `v` may have more bytes behind it.
 fn good_content(row: usize, v: &[u8]) -> Answer<()> {
@@ -477,7 +472,7 @@ pub fn load_parts(state: &mut State, stream: &[u8]) -> Answer<u64> {
     if state.running {
         return refuse(17);
     }
-    if stream.len() > LENGTH_LIMIT {
+    if stream.len() > TRANSFER_LIMIT {
         return refuse(13);
     }
     let mut loaded = Registers::default();

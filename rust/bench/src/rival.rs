@@ -46,16 +46,16 @@ fn program<M: Memory + 'static>(kind: Move, world: &mut World) -> Option<Repeate
     // The memory is hidden as the world is, or places in it could be looked up before the loop.
     Some(match kind {
         Move::CardRead => Box::new(repeat!(
-            |w| black_box(&memory).read(w.device, &mut w.buffer.get_mut()[..w.size])
+            |w| black_box(&memory).read(w.device.0, &mut w.buffer.get_mut()[..w.size])
         )),
         Move::CardWrite => Box::new(repeat!(
-            |w| black_box(&mut memory).write(w.device, &w.buffer.get()[..w.size])
+            |w| black_box(&mut memory).write(w.device.0, &w.buffer.get()[..w.size])
         )),
         Move::HostLoad => Box::new(repeat!(
-            |w| black_box(&memory).read(w.address, &mut w.buffer.get_mut()[..w.size])
+            |w| black_box(&memory).read(w.address.0, &mut w.buffer.get_mut()[..w.size])
         )),
         Move::HostStore => Box::new(repeat!(
-            |w| black_box(&mut memory).write(w.address, &w.buffer.get()[..w.size])
+            |w| black_box(&mut memory).write(w.address.0, &w.buffer.get()[..w.size])
         )),
     })
 }
@@ -72,16 +72,21 @@ fn shown(kind: Move, world: &World) -> Vec<(u64, &[u8])> {
     }
     let table = &world.state.table;
     let held = table.entries[..table.count].iter();
-    held.map(|m| (m.device, &memory[m.memory as usize..][..m.size as usize]))
-        .collect()
+    held.map(|m| {
+        (
+            m.device.0,
+            &memory[m.memory.0 as usize..][..m.size as usize],
+        )
+    })
+    .collect()
 }
 
 /// Whether both read the same bytes, and again once both have stored others.
 fn agrees(memory: &mut impl Memory, kind: Move, world: &mut World) -> bool {
     let (load, store, address) = if of_card(kind) {
-        (CARD_READ, CARD_WRITE, world.device)
+        (CARD_READ, CARD_WRITE, world.device.0)
     } else {
-        (HOST_LOAD, HOST_STORE, world.address)
+        (HOST_LOAD, HOST_STORE, world.address.0)
     };
     let first = reads_alike(memory, address, load.emulator, world);
     for byte in world.buffer.get_mut() {

@@ -2,15 +2,16 @@
 
 use std::hint::black_box;
 
-use glint_boundary as emulator;
-use glint_boundary::{Mapping, State};
+use glintbasket::raw::{self, SLOTS};
+use glintbasket::{kind, Bench, DeviceAddress, MemoryAddress, Rights, State};
 
 pub const PAGE: usize = 4096;
 const PAGES: usize = 64;
 /// The device address of the first mapping.
 const DEVICE: u64 = 0x1_0000_0000;
-/// A page that no mapping shows, and its device address, above all others.
-pub const SPARE: u64 = DEVICE + (2 * PAGES * PAGE) as u64;
+const BOTH: Rights = Rights(3);
+/// A device address above those of all mappings.
+const SPARE: u64 = DEVICE + (2 * PAGES * PAGE) as u64;
 
 /// Bytes that begin on a page, so that every run of the program meets the same alignment.
 pub struct Aligned {
@@ -50,8 +51,8 @@ pub struct World {
     pub buffer: Aligned,
     /// How many mappings are held, and restored after a call that changes it.
     pub held: usize,
-    pub device: u64,
-    pub address: u64,
+    pub device: DeviceAddress,
+    pub address: MemoryAddress,
     pub size: usize,
     /// The buffers of map and of unmap.
     pub map: [u8; 32],
@@ -68,106 +69,41 @@ impl World {
             *byte = (i % 251) as u8;
         }
         let mut marks = Aligned::filled(PAGES * PAGE, 1);
-        let kept = emulator::power_on(&State::default(), memory.get(), marks.get_mut());
-        assert!(!kept.outcome.refused);
+        let mut bench = Bench::new(memory.get_mut(), marks.get_mut()).expect("a fresh start");
+        // A single mapping shows all memory, and each of several one page.
+        let pages = if held == 1 { PAGES } else { 1 };
+        hold(&mut bench, held, pages);
+        set_registers(&mut bench);
+        let state = *bench.state();
         marks.get_mut().fill(1);
-        let mut world = World {
-            state: kept.state,
+        let shown = held * pages;
+        let start = shown.saturating_sub(size.div_ceil(PAGE)) / 2;
+        World {
+            state,
             memory,
             marks,
             buffer: Aligned::filled(PAGES * PAGE, 0),
             held,
-            device: 0,
-            address: (PAGES / 4 * PAGE) as u64,
+            device: DeviceAddress(DEVICE + (start * PAGE) as u64),
+            address: MemoryAddress((PAGES / 4 * PAGE) as u64),
             size,
-            map: map_request(Mapping {
-                device: SPARE,
-                memory: 0,
-                size: PAGE as u64,
-                rights: 3,
-            }),
-            unmap: [0; 24],
-        };
-        world.hold();
-        world.set_registers();
-        world
-    }
-
-    fn hold(&mut self) {
-        let pages = if self.held == 1 { PAGES } else { 1 };
-        for i in 0..self.held {
-            let place = if self.held == 1 {
-                0
-            } else {
-                (5 * i + 3) % PAGES
-            };
-            let kept = emulator::request(
-                &self.state,
-                self.memory.get(),
-                self.marks.get(),
-                0,
-                113,
-                &mut map_request(Mapping {
-                    device: DEVICE + (i * PAGE) as u64,
-                    memory: (place * PAGE) as u64,
-                    size: (pages * PAGE) as u64,
-                    rights: 3,
-                }),
-            );
-            assert!(!kept.outcome.refused);
-            self.state = kept.state;
-        }
-        let shown = self.held * pages;
-        let start = shown.saturating_sub(self.size.div_ceil(PAGE)) / 2;
-        self.device = DEVICE + (start * PAGE) as u64;
-        let last = DEVICE + (shown.saturating_sub(1) * PAGE) as u64;
-        self.unmap = unmap_request(last, PAGE as u64);
-    }
-
-    fn set_registers(&mut self) {
-        let mut queue = [0; 32];
-        queue[1] = 1; // 256
-        let values: [(u64, u64, &[u8]); 14] = [
-            (0x101, 0, &[0, 0, 0, 0x30, 1, 0, 0, 0]),
-            (0x102, 0, &[1, 2, 3, 4]),
-            (0x102, 8, &[1, 2, 3, 4]),
-            (0x102, 16, &[1, 2]),
-            (0x102, 22, &[1, 2]),
-            (0x103, 0, &[15]),
-            (0x104, 0, &queue),
-            (0x104, 1, &queue),
-            (0x104, 2, &queue),
-            (0x104, 3, &queue),
-            (0x105, 0, &[1, 0, 2, 0, 0, 0, 0, 0]),
-            (0x105, 1, &[1, 0, 2, 0, 0, 0, 0, 0]),
-            (0x105, 2, &[1, 0, 2, 0, 0, 0, 0, 0]),
-            (0x105, 3, &[1, 0, 2, 0, 0, 0, 0, 0]),
-        ];
-        for (kind, selector, value) in values {
-            let kept = emulator::set_register(&self.state, kind, selector, value);
-            assert!(!kept.outcome.refused);
-            self.state = kept.state;
+            map: map_request(SPARE),
+            unmap: unmap_request(DEVICE + (shown.saturating_sub(1) * PAGE) as u64),
         }
     }
 
     /// Leaves only status set.
     pub fn reset(mut self) -> World {
-        let kept = emulator::request(
-            &self.state,
-            self.memory.get(),
-            self.marks.get(),
-            1,
-            111,
-            &mut [],
-        );
-        assert!(!kept.outcome.refused);
-        self.state = kept.state;
+        let (memory, marks) = (self.memory.get_mut(), self.marks.get_mut());
+        let mut bench = Bench::resume(memory, marks, self.state);
+        bench.reset().expect("a reset");
+        self.state = *bench.state();
         self
     }
 
     /// Puts the stream that saves the registers into the buffer, and notes its length.
     pub fn saved(mut self) -> World {
-        let outcome = emulator::save_parts(&self.state, self.buffer.get_mut());
+        let outcome = raw::save_parts(&self.state, self.buffer.get_mut());
         assert!(!outcome.refused);
         self.size = outcome.result as usize;
         self
@@ -175,31 +111,56 @@ impl World {
 
     /// The map goes below all others, so that all of them move up.
     pub fn at_the_front(mut self) -> World {
-        self.map = map_request(Mapping {
-            device: 0,
-            memory: 0,
-            size: PAGE as u64,
-            rights: 3,
-        });
-        self.unmap = unmap_request(0, PAGE as u64);
+        self.map = map_request(0);
+        self.unmap = unmap_request(0);
         self
     }
 }
 
-fn map_request(m: Mapping) -> [u8; 32] {
+/// Mappings that adjoin in device addresses and lie scattered in memory.
+fn hold(bench: &mut Bench, held: usize, pages: usize) {
+    for i in 0..held {
+        let place = if held == 1 { 0 } else { (5 * i + 3) % PAGES };
+        let memory = MemoryAddress((place * PAGE) as u64);
+        let device = DeviceAddress(DEVICE + (i * PAGE) as u64);
+        bench
+            .map(memory, device, (pages * PAGE) as u64, BOTH)
+            .expect("a mapping");
+    }
+}
+
+fn set_registers(bench: &mut Bench) {
+    let mut queue = [0; 32];
+    queue[1] = 1; // 256
+    for (kind, selector, size) in SLOTS {
+        let value = match kind {
+            kind::DRIVER_FEATURES => &[0, 0, 0, 0x30, 1, 0, 0, 0][..],
+            kind::DEVICE_STATUS => &[15],
+            kind::QUEUE_CONFIG => &queue,
+            kind::NOTIFY_CONFIG => &[1, 0, 2, 0, 0, 0, 0, 0],
+            _ => &[1, 2, 3, 4][..size],
+        };
+        bench
+            .set_register(kind, selector, value)
+            .expect("a register");
+    }
+}
+
+/// A map that shows memory's first page there.
+fn map_request(device: u64) -> [u8; 32] {
     let mut buffer = [0; 32];
     buffer[..4].copy_from_slice(&32u32.to_le_bytes());
-    buffer[4..8].copy_from_slice(&m.rights.to_le_bytes());
-    buffer[8..16].copy_from_slice(&m.memory.to_le_bytes());
-    buffer[16..24].copy_from_slice(&m.device.to_le_bytes());
-    buffer[24..].copy_from_slice(&m.size.to_le_bytes());
+    buffer[4..8].copy_from_slice(&BOTH.0.to_le_bytes());
+    buffer[16..24].copy_from_slice(&device.to_le_bytes());
+    buffer[24..].copy_from_slice(&(PAGE as u64).to_le_bytes());
     buffer
 }
 
-fn unmap_request(device: u64, size: u64) -> [u8; 24] {
+/// An unmap of one page.
+fn unmap_request(device: u64) -> [u8; 24] {
     let mut buffer = [0; 24];
     buffer[..4].copy_from_slice(&24u32.to_le_bytes());
     buffer[8..16].copy_from_slice(&device.to_le_bytes());
-    buffer[16..].copy_from_slice(&size.to_le_bytes());
+    buffer[16..].copy_from_slice(&(PAGE as u64).to_le_bytes());
     buffer
 }

@@ -2,7 +2,7 @@
 
 use std::fmt;
 
-use glint_boundary::State;
+use glintbasket::State;
 
 /// A call but for its buffer.
 #[derive(Clone, Copy, Debug, PartialEq, Eq)]
@@ -165,8 +165,8 @@ impl fmt::Display for Shown<'_> {
         let count = state.table.count;
         write!(f, "[length {:#x}, {count} mappings", state.memory_length)?;
         for m in state.table.entries.iter().take(count) {
-            let (device, memory) = (m.device, m.memory);
-            write!(f, " {device:x}->{memory:x}+{:x}/{}", m.size, m.rights)?;
+            let (device, memory) = (m.device.0, m.memory.0);
+            write!(f, " {device:x}->{memory:x}+{:x}/{}", m.size, m.rights.0)?;
         }
         write!(f, ", registers")?;
         for (slot, register) in state.registers.slots.iter().enumerate() {

@@ -2,7 +2,7 @@
 
 use std::fmt::Write;
 
-use glint_boundary::{Mapping, State};
+use glintbasket::{DeviceAddress, Mapping, MemoryAddress, Rights, State};
 
 use crate::random::Random;
 use crate::streams;
@@ -80,10 +80,10 @@ pub fn damaged(sound: &State, random: &mut Random) -> (usize, State) {
         table.count = 2;
         for (i, m) in table.entries[..2].iter_mut().enumerate() {
             *m = Mapping {
-                device: (i as u64 + 1) * PAGE,
-                memory: 0,
+                device: DeviceAddress((i as u64 + 1) * PAGE),
+                memory: MemoryAddress(0),
                 size: PAGE,
-                rights: 3,
+                rights: Rights(3),
             };
         }
     }
@@ -98,32 +98,32 @@ pub fn damaged(sound: &State, random: &mut Random) -> (usize, State) {
         }
         "mappings that overlap" => {
             let j = random.below(last as u64) as usize;
-            let next = table.entries[j + 1].device;
+            let next = table.entries[j + 1].device.0;
             let m = &mut table.entries[j];
-            m.size = next - m.device + PAGE;
+            m.size = next - m.device.0 + PAGE;
         }
         "one mapping twice" => {
             let j = random.below(last as u64) as usize;
             table.entries[j + 1] = table.entries[j];
         }
-        "device address not aligned" => m.device ^= 1 << random.below(12),
-        "memory address not aligned" => m.memory ^= 1 << random.below(12),
+        "device address not aligned" => m.device.0 ^= 1 << random.below(12),
+        "memory address not aligned" => m.memory.0 ^= 1 << random.below(12),
         "size not aligned" => m.size ^= 1 << random.below(12),
         "size 0" => m.size = 0,
-        "rights 0" => m.rights = 0,
-        "rights above 3" => m.rights = random.pick(&[4, 5, 7, 0x103, 0x8000_0001, u32::MAX]),
+        "rights 0" => m.rights.0 = 0,
+        "rights above 3" => m.rights.0 = random.pick(&[4, 5, 7, 0x103, 0x8000_0001, u32::MAX]),
         "ends past 2^48" => {
             let m = &mut table.entries[last];
-            m.device = TOP - m.size + PAGE;
+            m.device.0 = TOP - m.size + PAGE;
         }
         "device end wraps" => {
             let m = &mut table.entries[last];
-            m.device = 0u64.wrapping_sub(m.size);
+            m.device.0 = 0u64.wrapping_sub(m.size);
         }
         "ends past the noted length" => {
-            m.memory = (state.memory_length / PAGE * PAGE + PAGE).saturating_sub(m.size);
+            m.memory.0 = (state.memory_length / PAGE * PAGE + PAGE).saturating_sub(m.size);
         }
-        "memory end wraps" => m.memory = 0u64.wrapping_sub(m.size),
+        "memory end wraps" => m.memory.0 = 0u64.wrapping_sub(m.size),
         "noted length above 2^30" => {
             state.memory_length = random.pick(&[MEMORY_LIMIT + 1, MEMORY_LIMIT + PAGE, u64::MAX]);
         }

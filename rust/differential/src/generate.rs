@@ -1,11 +1,11 @@
 //! Makes lists of calls: each rule is tried at its edges, mostly with all else in order.
 
-use glint_boundary::{Mapping, Register, State, CAPACITY};
 use glint_reference::bench::PAGE;
+use glintbasket::raw::SLOTS;
+use glintbasket::{DeviceAddress, Mapping, MemoryAddress, Register, Rights, State, MAPPINGS};
 
 use crate::call::{Call, Made, Step};
 use crate::damage::{self, Damages};
-use crate::meaning::SLOTS;
 use crate::random::Random;
 use crate::streams;
 use crate::trio::{garble, Trio};
@@ -189,13 +189,13 @@ impl Generator {
         for (i, m) in state.table.entries[..count as usize].iter_mut().enumerate() {
             let place = random.below(pages - size / PAGE + 1);
             *m = Mapping {
-                device: low + i as u64 * (size + gap),
-                memory: if large { i as u64 % pages } else { place } * PAGE,
+                device: DeviceAddress(low + i as u64 * (size + gap)),
+                memory: MemoryAddress(if large { i as u64 % pages } else { place } * PAGE),
                 size,
-                rights: random.pick(&[3, 3, 3, 3, 3, 3, 1, 2]),
+                rights: Rights(random.pick(&[3, 3, 3, 3, 3, 3, 1, 2])),
             };
-            if m.memory + m.size > state.memory_length {
-                m.memory = 0;
+            if m.memory.0 + m.size > state.memory_length {
+                m.memory.0 = 0;
             }
         }
         state.table.count = count as usize;
@@ -651,7 +651,7 @@ fn put(buffer: &mut [u8], at: usize, width: usize, number: u64) {
     }
 }
 
-const _: () = assert!(CAPACITY == 64);
+const _: () = assert!(MAPPINGS == 64);
 
 #[cfg(test)]
 mod tests {

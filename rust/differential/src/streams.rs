@@ -1,6 +1,7 @@
 //! Values of registers, and streams of parts: good ones, and ones with a few faults.
 
-use crate::meaning::SLOTS;
+use glintbasket::raw::SLOTS;
+
 use crate::random::Random;
 
 const OFFERED: u64 = 0x1_3000_0000;

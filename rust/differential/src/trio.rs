@@ -2,11 +2,12 @@
 
 use std::panic::{catch_unwind, AssertUnwindSafe};
 
-use glint_boundary::State;
 use glint_reference::bench;
+use glintbasket::raw::SLOTS;
+use glintbasket::State;
 
 use crate::call::{Answer, Call, Made, Step};
-use crate::meaning::{meaning, means, SLOTS};
+use crate::meaning::{meaning, means};
 use crate::programs::{emulate, refer};
 use crate::random::Random;
 
@@ -281,10 +282,10 @@ fn twin_memory(memory: &[u8], marks: &[u8], random: &mut Random) -> Vec<u8> {
 /// Fills all of a state that means nothing.
 pub fn garble(state: &mut State, random: &mut Random) {
     for m in state.table.entries.iter_mut().skip(state.table.count) {
-        m.device = random.number();
-        m.memory = random.number() & 0xf_f000;
+        m.device.0 = random.number();
+        m.memory.0 = random.number() & 0xf_f000;
         m.size = random.number();
-        m.rights = random.number() as u32;
+        m.rights.0 = random.number() as u32;
     }
     for ((_, _, length), register) in SLOTS.iter().zip(&mut state.registers.slots) {
         let used = if register.set { *length } else { 0 };

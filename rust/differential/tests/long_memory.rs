@@ -1,22 +1,23 @@
 //! The limit of 2^30 bytes of memory, which no list can afford. Nothing here touches the pages of
 //! so long a memory, so that none of them is ever there.
 
-use glint_boundary::{self as emulator, Mapping, State};
 use glint_differential::call::{Answer, Call};
 use glint_differential::meaning::meaning;
 use glint_differential::programs::{emulate, refer};
+use glintbasket::raw;
+use glintbasket::{DeviceAddress, Mapping, MemoryAddress, Rights, State};
 
 const LIMIT: usize = 1 << 30;
 
 fn state(length: usize) -> State {
-    let mut state = emulator::power_on(&State::default(), &[], &mut []).state;
+    let mut state = raw::power_on(&State::default(), &[], &mut []).state;
     state.memory_length = length as u64;
     state.table.count = 1;
     state.table.entries[0] = Mapping {
-        device: 0,
-        memory: LIMIT as u64 - 4096,
+        device: DeviceAddress(0),
+        memory: MemoryAddress(LIMIT as u64 - 4096),
         size: 4096,
-        rights: 3,
+        rights: Rights(3),
     };
     state
 }

@@ -27,6 +27,7 @@ impl Rights {
     pub const WRITE: Rights = Rights(2);
 
     /// Whether all of `rights` are among these.
+    #[inline]
     pub fn contains(self, rights: Rights) -> bool {
         self.0 & rights.0 == rights.0
     }

@@ -2,7 +2,7 @@
 
 use crate::address::{DeviceAddress, MemoryAddress, Rights};
 use crate::error::Result;
-use crate::ffi::{self, Kept, Mapping, State};
+use crate::raw::{self, Kept, Mapping, State};
 use std::fmt;
 use std::ops::{Deref, DerefMut};
 
@@ -77,7 +77,7 @@ impl OwnedBench {
         let mut bench = Bench {
             memory: Bytes::Owned(memory),
             marks: Bytes::Owned(marks),
-            state: State::blank(),
+            state: State::default(),
         };
         bench.power_on()?;
         Ok(bench)
@@ -89,7 +89,7 @@ impl<'m> Bench<'m> {
     ///
     /// Refused: `BadBench` if the two differ in length or exceed 2^30 bytes.
     pub fn new(memory: &'m mut [u8], marks: &'m mut [u8]) -> Result<Bench<'m>> {
-        let mut bench = Bench::resume(memory, marks, State::blank());
+        let mut bench = Bench::resume(memory, marks, State::default());
         bench.power_on()?;
         Ok(bench)
     }
@@ -145,7 +145,7 @@ impl<'m> Bench<'m> {
     ///
     /// Refused: `BadBench`.
     pub fn power_on(&mut self) -> Result<()> {
-        let kept = ffi::power_on(self.state, &self.memory, &mut self.marks);
+        let kept = raw::power_on(&self.state, &self.memory, &mut self.marks);
         self.keep(kept).map(drop)
     }
 
@@ -153,8 +153,8 @@ impl<'m> Bench<'m> {
     ///
     /// Refused: `BadBench`, `NoSuchRequest`, `Short`, `ArgSize`, then as the request says.
     pub fn request(&mut self, target: Target, number: u32, buffer: &mut [u8]) -> Result<u64> {
-        let kept = ffi::request(
-            self.state,
+        let kept = raw::request(
+            &self.state,
             &self.memory,
             &self.marks,
             target.0,
@@ -168,7 +168,7 @@ impl<'m> Bench<'m> {
     ///
     /// Refused: `BadBench`, `Range`, `Unmapped`.
     pub fn look_up(&self, device: DeviceAddress) -> Result<Location> {
-        let found = ffi::look_up(self.state, device.0);
+        let found = raw::look_up(&self.state, device);
         found.outcome.answer()?;
         Ok(Location {
             address: found.address,
@@ -180,7 +180,7 @@ impl<'m> Bench<'m> {
     ///
     /// Refused: `BadBench`, `TooLong`, `Range`, then for the first faulty offset `Unmapped`, `NoRight`, `Unwritten`.
     pub fn device_read(&self, device: DeviceAddress, buffer: &mut [u8]) -> Result<()> {
-        ffi::device_read(self.state, &self.memory, &self.marks, device.0, buffer)
+        raw::device_read(&self.state, &self.memory, &self.marks, device, buffer)
             .answer()
             .map(drop)
     }
@@ -189,11 +189,11 @@ impl<'m> Bench<'m> {
     ///
     /// Refused: `BadBench`, `TooLong`, `Range`, then for the first faulty offset `Unmapped`, `NoRight`.
     pub fn device_write(&mut self, device: DeviceAddress, bytes: &[u8]) -> Result<()> {
-        ffi::device_write(
-            self.state,
+        raw::device_write(
+            &self.state,
             &mut self.memory,
             &mut self.marks,
-            device.0,
+            device,
             bytes,
         )
         .answer()
@@ -204,11 +204,11 @@ impl<'m> Bench<'m> {
     ///
     /// Refused: `BadBench`, `TooLong`, `Range`.
     pub fn host_write(&mut self, address: MemoryAddress, bytes: &[u8]) -> Result<()> {
-        ffi::host_write(
-            self.state,
+        raw::host_write(
+            &self.state,
             &mut self.memory,
             &mut self.marks,
-            address.0,
+            address,
             bytes,
         )
         .answer()
@@ -219,7 +219,7 @@ impl<'m> Bench<'m> {
     ///
     /// Refused: `BadBench`, `TooLong`, `Range`, `Unwritten`.
     pub fn host_read(&self, address: MemoryAddress, buffer: &mut [u8]) -> Result<()> {
-        ffi::host_read(self.state, &self.memory, &self.marks, address.0, buffer)
+        raw::host_read(&self.state, &self.memory, &self.marks, address, buffer)
             .answer()
             .map(drop)
     }
@@ -228,7 +228,7 @@ impl<'m> Bench<'m> {
     ///
     /// Refused: `BadBench`, `Range`.
     pub fn invalidate(&mut self, address: MemoryAddress, length: u64) -> Result<()> {
-        ffi::invalidate(self.state, &self.memory, &mut self.marks, address.0, length)
+        raw::invalidate(&self.state, &self.memory, &mut self.marks, address, length)
             .answer()
             .map(drop)
     }
@@ -237,7 +237,7 @@ impl<'m> Bench<'m> {
     ///
     /// Refused: `BadBench`, `UnknownPart`, `ReadOnly`, `Header`, `Index`, `Value`, `Mismatch`.
     pub fn set_register(&mut self, kind: u64, selector: u64, value: &[u8]) -> Result<()> {
-        let kept = ffi::set_register(self.state, kind, selector, value);
+        let kept = raw::set_register(&self.state, kind, selector, value);
         self.keep(kept).map(drop)
     }
 
@@ -245,7 +245,7 @@ impl<'m> Bench<'m> {
     ///
     /// Refused: `BadBench`, `UnknownPart`, `Header`, `Index`, `Unset`, `NoSpace`.
     pub fn read_register(&self, kind: u64, selector: u64, buffer: &mut [u8]) -> Result<usize> {
-        ffi::read_register(self.state, kind, selector, buffer)
+        raw::read_register(&self.state, kind, selector, buffer)
             .answer()
             .map(length)
     }
@@ -255,7 +255,7 @@ impl<'m> Bench<'m> {
     /// Refused: `BadBench`, `Running`, `TooLong`, then for the first faulty part `Truncated`, `Header`, `UnknownPart`, `Index`,
     /// `Value`, `Twice`, `Mismatch`, and at the end `Missing`.
     pub fn load_parts(&mut self, stream: &[u8]) -> Result<()> {
-        let kept = ffi::load_parts(self.state, stream);
+        let kept = raw::load_parts(&self.state, stream);
         self.keep(kept).map(drop)
     }
 
@@ -265,14 +265,14 @@ impl<'m> Bench<'m> {
     ///
     /// [`SAVED_MAX`]: crate::SAVED_MAX
     pub fn save_parts(&self, buffer: &mut [u8]) -> Result<usize> {
-        ffi::save_parts(self.state, buffer).answer().map(length)
+        raw::save_parts(&self.state, buffer).answer().map(length)
     }
 
     /// Stops the device, whether or not it runs.
     ///
     /// Refused: `BadBench`.
     pub fn stop(&mut self) -> Result<()> {
-        let kept = ffi::stop(self.state);
+        let kept = raw::stop(&self.state);
         self.keep(kept).map(drop)
     }
 
@@ -280,7 +280,7 @@ impl<'m> Bench<'m> {
     ///
     /// Refused: `BadBench`.
     pub fn start(&mut self) -> Result<()> {
-        let kept = ffi::start(self.state);
+        let kept = raw::start(&self.state);
         self.keep(kept).map(drop)
     }
 }

@@ -1,6 +1,6 @@
 //! Refusals, and the error that carries one.
 
-use crate::ffi::Outcome;
+use crate::raw::Outcome;
 use std::fmt;
 
 /// Defines the refusals from one list, so that names and numbers cannot drift apart.

@@ -60,7 +60,8 @@
 //! The emulator is written in Rattle and proved; `rt staticlib capi` writes it as `libcapi.a` (x86-64 Linux). The build script looks for
 //! it in the directory that the environment variable `GLINT_STATICLIB_DIR` names, or in the repository's `target/staticlib`.
 //!
-//! All `unsafe` code is in one private module, which declares the library's functions and gives each a safe form.
+//! All `unsafe` code is in the module [`raw`], which declares the library's functions and gives each a safe form. A [`Bench`] stands on
+//! it; a program that keeps the state itself can call it, too.
 
 #![deny(unsafe_code)]
 #![deny(missing_docs)]
@@ -68,16 +69,17 @@
 mod address;
 mod bench;
 mod error;
-#[allow(unsafe_code)]
-mod ffi;
 mod parts;
+#[allow(unsafe_code)]
+pub mod raw;
 mod requests;
 
 pub use address::{DeviceAddress, MemoryAddress, Rights};
 pub use bench::{Bench, Location, OwnedBench, Target};
 pub use error::{Error, Refusal, Result};
-pub use ffi::{Mapping, Register, Registers, State, Table};
 pub use parts::{Part, Parts, PART_HEADER};
+#[doc(inline)]
+pub use raw::{Mapping, Register, Registers, State, Table};
 pub use requests::{number, DeviceInfo, IommuInfo, IrqInfo, RegionInfo};
 
 /// The size of a page.

@@ -1,7 +1,7 @@
 //! The walker over a stream of parts.
 
 use crate::error::{Error, Result};
-use crate::ffi;
+use crate::raw;
 use std::iter::FusedIterator;
 
 /// Bytes of a part before its value.
@@ -60,7 +60,7 @@ impl<'s> Parts<'s> {
     ///
     /// Refused, with the step's place: `Truncated`, `Header`.
     pub fn step(&mut self) -> Result<Option<Part<'s>>> {
-        let step = ffi::step(self.stream, self.place);
+        let step = raw::step(self.stream, self.place);
         if step.refused {
             self.refused = true;
             return Err(Error::from_code(step.code, step.place));

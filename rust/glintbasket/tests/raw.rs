@@ -1,6 +1,7 @@
-//! Every call crosses: each argument arrives where it should, and each answer comes back.
+//! The raw calls: each argument arrives where it should, and each answer comes back.
 
-use glint_boundary::*;
+use glintbasket::raw::*;
+use glintbasket::{kind, DeviceAddress, MemoryAddress, Rights};
 
 const PAGE: usize = 4096;
 
@@ -50,48 +51,60 @@ fn memory_and_the_table_cross() {
     assert_eq!(kept.outcome, done(0));
     let state = kept.state;
     assert_eq!(state.table.count, 1);
-    assert_eq!(state.table.entries[0].memory, 4096);
-    assert_eq!(state.table.entries[0].device, 0x10000);
+    assert_eq!(state.table.entries[0].memory, MemoryAddress(4096));
+    assert_eq!(state.table.entries[0].device, DeviceAddress(0x10000));
 
-    let found = look_up(&state, 0x10004);
+    let found = look_up(&state, DeviceAddress(0x10004));
     assert_eq!(
         (found.outcome, found.address, found.rights),
-        (done(0), 4100, 3)
+        (done(0), MemoryAddress(4100), Rights(3))
     );
-    assert_eq!(look_up(&state, 0).outcome, refused(14, 0));
+    assert_eq!(look_up(&state, DeviceAddress(0)).outcome, refused(14, 0));
 
     assert_eq!(
-        device_write(&state, &mut memory, &mut marks, 0x10001, &[1, 2]),
+        device_write(
+            &state,
+            &mut memory,
+            &mut marks,
+            DeviceAddress(0x10001),
+            &[1, 2]
+        ),
         done(0)
     );
     assert_eq!(&memory[4096..4100], [7, 1, 2, 7]);
     assert_eq!(&marks[4096..4100], [0, 1, 1, 0]);
     let mut read = [0; 2];
     assert_eq!(
-        device_read(&state, &memory, &marks, 0x10001, &mut read),
+        device_read(&state, &memory, &marks, DeviceAddress(0x10001), &mut read),
         done(0)
     );
     assert_eq!(read, [1, 2]);
     assert_eq!(
-        device_read(&state, &memory, &marks, 0x10002, &mut read),
+        device_read(&state, &memory, &marks, DeviceAddress(0x10002), &mut read),
         refused(16, 1)
     );
 
     assert_eq!(
-        host_write(&state, &mut memory, &mut marks, 5, &[3]),
+        host_write(&state, &mut memory, &mut marks, MemoryAddress(5), &[3]),
         done(0)
     );
     assert_eq!((memory[5], marks[5]), (3, 1));
     let mut one = [0];
-    assert_eq!(host_read(&state, &memory, &marks, 5, &mut one), done(0));
-    assert_eq!(one, [3]);
-    assert_eq!(invalidate(&state, &memory, &mut marks, 5, 1), done(0));
     assert_eq!(
-        host_read(&state, &memory, &marks, 5, &mut one),
+        host_read(&state, &memory, &marks, MemoryAddress(5), &mut one),
+        done(0)
+    );
+    assert_eq!(one, [3]);
+    assert_eq!(
+        invalidate(&state, &memory, &mut marks, MemoryAddress(5), 1),
+        done(0)
+    );
+    assert_eq!(
+        host_read(&state, &memory, &marks, MemoryAddress(5), &mut one),
         refused(16, 0)
     );
     assert_eq!(
-        host_read(&state, &memory, &marks, 8192, &mut []),
+        host_read(&state, &memory, &marks, MemoryAddress(8192), &mut []),
         done(0),
         "an empty slice"
     );
@@ -131,4 +144,23 @@ fn registers_and_streams_cross() {
         refused(17, 0)
     );
     assert!(!stop(&running.state).state.running);
+}
+
+#[test]
+fn slots_tell_where_a_register_is_kept_and_its_size() {
+    let state = fresh(&[], &mut []);
+    for (slot, (kind, selector, size)) in SLOTS.into_iter().enumerate() {
+        let mut value = [0; 33];
+        value[0] = (kind != kind::DRIVER_FEATURES) as u8; // that bit is not offered
+        let kept = set_register(&state, kind, selector, &value[..size]);
+        assert_eq!(kept.outcome, done(0), "slot {slot}");
+
+        let mut registers = state.registers;
+        registers.slots[slot].set = true;
+        registers.slots[slot].bytes.copy_from_slice(&value[..32]);
+        assert_eq!(kept.state.registers, registers, "slot {slot}");
+
+        let long = set_register(&state, kind, selector, &value[..size + 1]);
+        assert_eq!(long.outcome, refused(22, 0), "slot {slot}");
+    }
 }

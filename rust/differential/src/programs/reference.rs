@@ -1,0 +1,88 @@
+//! One call on the second program.
+
+use glint_reference::answer::Refused;
+use glint_reference::bench::{self, DeviceAddress, MemoryAddress};
+use glint_reference::{moves, parts, registers, requests};
+
+use crate::call::{Answer, Call};
+
+/// A call on the second program, which changes the state in place.
+pub fn refer(
+    call: &Call,
+    state: &mut bench::State,
+    memory: &mut [u8],
+    marks: &mut [u8],
+    buffer: &mut [u8],
+) -> Answer {
+    let answer = match *call {
+        Call::FreshStart => bench::fresh_start(state, memory, marks),
+        Call::Request { target, number } => {
+            let (target, number) = (u64::from(target), u64::from(number));
+            requests::request(state, memory, marks, target, number, buffer)
+        }
+        Call::LookUp { device } => {
+            return match moves::look_up(state, DeviceAddress(device)) {
+                Ok((address, rights)) => Answer::Found {
+                    address: address.0,
+                    rights,
+                },
+                Err(refused) => refusal(refused),
+            }
+        }
+        Call::CardRead { device } => {
+            moves::card_read(state, memory, marks, DeviceAddress(device), buffer)
+        }
+        Call::CardWrite { device } => {
+            moves::card_write(state, memory, marks, DeviceAddress(device), buffer)
+        }
+        Call::HostStore { address } => {
+            moves::host_store(state, memory, marks, MemoryAddress(address), buffer)
+        }
+        Call::HostLoad { address } => {
+            moves::host_load(state, memory, marks, MemoryAddress(address), buffer)
+        }
+        Call::Forget { address, length } => {
+            moves::forget(state, memory, marks, MemoryAddress(address), length)
+        }
+        Call::SetRegister { kind, selector } => {
+            registers::set_register(state, kind, selector, buffer)
+        }
+        Call::ReadRegister { kind, selector } => {
+            registers::read_register(state, kind, selector, buffer)
+        }
+        Call::LoadParts => parts::load_parts(state, buffer),
+        Call::SaveParts => parts::save_parts(state, buffer),
+        Call::Stop => bench::stop(state),
+        Call::Start => bench::start(state),
+        Call::Walk { place } => return walk(buffer, place),
+    };
+    match answer {
+        Ok(result) => Answer::Done(result),
+        Err(refused) => refusal(refused),
+    }
+}
+
+fn refusal(refused: Refused) -> Answer {
+    Answer::Refused {
+        code: refused.refusal.number(),
+        place: refused.place,
+    }
+}
+
+fn walk(stream: &[u8], place: u64) -> Answer {
+    match parts::step(stream, place) {
+        Err(refused) => refusal(refused),
+        Ok(None) => Answer::End,
+        Ok(Some(part)) => {
+            // The value is the stretch of the stream from 16 bytes behind the place to the next.
+            let start = place as usize + parts::HEADER;
+            assert_eq!(part.value, &stream[start..part.next as usize]);
+            Answer::Part {
+                kind: part.kind,
+                flags: part.flags,
+                selector: part.selector,
+                next: part.next,
+            }
+        }
+    }
+}

@@ -1,0 +1,174 @@
+//! The structs as C lays them out.
+
+use crate::address::{DeviceAddress, MemoryAddress, Rights};
+use crate::{kind, MAPPINGS};
+
+/// `size` bytes of memory from `memory` on, shown at the device addresses from `device` on.
+#[repr(C)]
+#[derive(Clone, Copy, Debug, Default, PartialEq, Eq)]
+pub struct Mapping {
+    /// The first device address.
+    pub device: DeviceAddress,
+    /// The memory address that it shows.
+    pub memory: MemoryAddress,
+    /// How many bytes are shown.
+    pub size: u64,
+    /// What the device may do with them.
+    pub rights: Rights,
+}
+
+/// The mapping table.
+///
+/// Entries past `count` mean nothing; `==` looks at them all the same.
+#[repr(C)]
+#[derive(Clone, Copy, Debug, PartialEq, Eq)]
+pub struct Table {
+    /// The first `count` are in use, by rising device address.
+    pub entries: [Mapping; MAPPINGS],
+    /// How many entries are in use.
+    pub count: usize,
+}
+
+/// How many registers are kept.
+pub const REGISTERS: usize = 14;
+
+/// Type, selector and size of each kept register, as they stand in [`Registers`].
+pub const SLOTS: [(u64, u64, usize); REGISTERS] = [
+    (kind::DRIVER_FEATURES, 0, 8),
+    (kind::COMMON_FIELD, 0, 4),
+    (kind::COMMON_FIELD, 8, 4),
+    (kind::COMMON_FIELD, 16, 2),
+    (kind::COMMON_FIELD, 22, 2),
+    (kind::DEVICE_STATUS, 0, 1),
+    (kind::QUEUE_CONFIG, 0, 32),
+    (kind::QUEUE_CONFIG, 1, 32),
+    (kind::QUEUE_CONFIG, 2, 32),
+    (kind::QUEUE_CONFIG, 3, 32),
+    (kind::NOTIFY_CONFIG, 0, 8),
+    (kind::NOTIFY_CONFIG, 1, 8),
+    (kind::NOTIFY_CONFIG, 2, 8),
+    (kind::NOTIFY_CONFIG, 3, 8),
+];
+
+/// A register that is kept. Its value is as many of the first bytes as [`SLOTS`](crate::raw::SLOTS) says.
+#[repr(C)]
+#[derive(Clone, Copy, Debug, Default, PartialEq, Eq)]
+pub struct Register {
+    /// Whether it is set; if not, `bytes` means nothing.
+    pub set: bool,
+    /// The value, and behind it bytes that mean nothing.
+    pub bytes: [u8; 32],
+}
+
+/// The registers that are kept.
+#[repr(C)]
+#[derive(Clone, Copy, Debug, Default, PartialEq, Eq)]
+pub struct Registers {
+    /// Driver features, four common fields, status, four queues, four notify values.
+    pub slots: [Register; REGISTERS],
+}
+
+/// What is kept between calls.
+///
+/// Any values may stand in it: a call refuses a state that is not sound with [`BadBench`](crate::Refusal::BadBench). The default is
+/// zeros, which are not sound: a place for what a fresh start gives. `==` looks at every field, also at table entries and register
+/// bytes that mean nothing.
+#[repr(C)]
+#[derive(Clone, Copy, Debug, Default, PartialEq, Eq)]
+pub struct State {
+    /// The memory's length, noted at the last fresh start.
+    pub memory_length: u64,
+    /// The mappings held.
+    pub table: Table,
+    /// The device's registers.
+    pub registers: Registers,
+    /// Whether the device runs.
+    pub running: bool,
+}
+
+/// An answer: a result, or a refusal's number and place.
+#[repr(C)]
+#[derive(Clone, Copy, Debug, PartialEq, Eq)]
+pub struct Outcome {
+    /// Whether the call was refused.
+    pub refused: bool,
+    /// The refusal's number (see [`Refusal`](crate::Refusal)).
+    pub code: u32,
+    /// The refusal's place.
+    pub place: u64,
+    /// The result.
+    pub result: u64,
+}
+
+/// An answer, and the state to keep.
+#[repr(C)]
+#[derive(Clone, Copy, Debug, PartialEq, Eq)]
+pub struct Kept {
+    /// The answer.
+    pub outcome: Outcome,
+    /// The state to keep: of a refused call, the one that it was given.
+    pub state: State,
+}
+
+/// Look-up's answer.
+#[repr(C)]
+#[derive(Clone, Copy, Debug, PartialEq, Eq)]
+pub struct Found {
+    /// The answer but for what was found.
+    pub outcome: Outcome,
+    /// The memory address.
+    pub address: MemoryAddress,
+    /// The rights of the mapping that holds the device address.
+    pub rights: Rights,
+}
+
+/// A step's answer: a refusal; the end of the stream; or a part.
+///
+/// A part's value reaches from [`PART_HEADER`](crate::PART_HEADER) bytes behind the step's place to `next`.
+#[repr(C)]
+#[derive(Clone, Copy, Debug, PartialEq, Eq)]
+pub struct PartStep {
+    /// Whether the step was refused.
+    pub refused: bool,
+    /// Whether the stream ends here.
+    pub end: bool,
+    /// The refusal's number.
+    pub code: u32,
+    /// The refusal's place.
+    pub place: u64,
+    /// The part's type.
+    pub kind: u16,
+    /// The part's flags.
+    pub flags: u8,
+    /// All eight bytes of the part's selector, as one number.
+    pub selector: u64,
+    /// The place of the next step; after a refusal or the end, of this one.
+    pub next: usize,
+}
+
+impl Default for Table {
+    fn default() -> Table {
+        Table {
+            entries: [Mapping::default(); MAPPINGS],
+            count: 0,
+        }
+    }
+}
+
+// The library's layout: include/glintbasket.h asserts the same numbers.
+const _: () = {
+    use std::mem::{offset_of, size_of};
+    assert!(size_of::<usize>() == 8);
+    assert!(size_of::<Mapping>() == 32);
+    assert!(size_of::<Table>() == 2056);
+    assert!(size_of::<Register>() == 33);
+    assert!(size_of::<Registers>() == 462);
+    assert!(size_of::<State>() == 2528);
+    assert!(offset_of!(State, table) == 8);
+    assert!(offset_of!(State, registers) == 2064);
+    assert!(offset_of!(State, running) == 2526);
+    assert!(size_of::<Outcome>() == 24);
+    assert!(size_of::<Kept>() == 2552);
+    assert!(size_of::<Found>() == 40);
+    assert!(size_of::<PartStep>() == 40);
+};
