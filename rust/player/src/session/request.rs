@@ -5,9 +5,6 @@ use super::number::Number;
 use super::words::{quoted, Word, Words};
 use super::Call;
 
-/// No listed request is larger.
-const SIZE_MAX: usize = 32;
-
 const CONTAINER: u64 = 0;
 const DEVICE: u64 = 1;
 
@@ -37,92 +34,57 @@ const fn field(name: &'static str, offset: usize, width: usize) -> Field {
     }
 }
 
+/// One without output fields.
+const fn listed(
+    target: u64,
+    name: &'static str,
+    number: u64,
+    size: usize,
+    fields: &'static [Field],
+) -> Listed {
+    Listed {
+        target,
+        name,
+        number,
+        size,
+        output: false,
+        fields,
+    }
+}
+
+impl Listed {
+    const fn with_output(self) -> Listed {
+        Listed {
+            output: true,
+            ..self
+        }
+    }
+}
+
 const ARGSZ: Field = field("argsz", 0, 4);
+const FLAGS: Field = field("flags", 4, 4);
+const INDEX: Field = field("index", 8, 4);
+const EXTENSION: Field = field("number", 0, 4);
+
+const MAP: &[Field] = &[
+    ARGSZ,
+    FLAGS,
+    field("memory", 8, 8),
+    field("device", 16, 8),
+    field("size", 24, 8),
+];
+const UNMAP: &[Field] = &[ARGSZ, FLAGS, field("device", 8, 8), field("size", 16, 8)];
 
 const LISTED: [Listed; 9] = [
-    Listed {
-        target: CONTAINER,
-        name: "api-version",
-        number: 100,
-        size: 0,
-        output: false,
-        fields: &[],
-    },
-    Listed {
-        target: CONTAINER,
-        name: "check-extension",
-        number: 101,
-        size: 4,
-        output: false,
-        fields: &[field("number", 0, 4)],
-    },
-    Listed {
-        target: CONTAINER,
-        name: "iommu-info",
-        number: 112,
-        size: 16,
-        output: true,
-        fields: &[ARGSZ],
-    },
-    Listed {
-        target: CONTAINER,
-        name: "map",
-        number: 113,
-        size: SIZE_MAX,
-        output: false,
-        fields: &[
-            ARGSZ,
-            field("flags", 4, 4),
-            field("memory", 8, 8),
-            field("device", 16, 8),
-            field("size", 24, 8),
-        ],
-    },
-    Listed {
-        target: CONTAINER,
-        name: "unmap",
-        number: 114,
-        size: 24,
-        output: true,
-        fields: &[
-            ARGSZ,
-            field("flags", 4, 4),
-            field("device", 8, 8),
-            field("size", 16, 8),
-        ],
-    },
-    Listed {
-        target: DEVICE,
-        name: "info",
-        number: 107,
-        size: 16,
-        output: true,
-        fields: &[ARGSZ],
-    },
-    Listed {
-        target: DEVICE,
-        name: "region-info",
-        number: 108,
-        size: SIZE_MAX,
-        output: true,
-        fields: &[ARGSZ, field("index", 8, 4)],
-    },
-    Listed {
-        target: DEVICE,
-        name: "irq-info",
-        number: 109,
-        size: 16,
-        output: true,
-        fields: &[ARGSZ, field("index", 8, 4)],
-    },
-    Listed {
-        target: DEVICE,
-        name: "reset",
-        number: 111,
-        size: 0,
-        output: false,
-        fields: &[],
-    },
+    listed(CONTAINER, "api-version", 100, 0, &[]),
+    listed(CONTAINER, "check-extension", 101, 4, &[EXTENSION]),
+    listed(CONTAINER, "iommu-info", 112, 16, &[ARGSZ]).with_output(),
+    listed(CONTAINER, "map", 113, 32, MAP),
+    listed(CONTAINER, "unmap", 114, 24, UNMAP).with_output(),
+    listed(DEVICE, "info", 107, 16, &[ARGSZ]).with_output(),
+    listed(DEVICE, "region-info", 108, 32, &[ARGSZ, INDEX]).with_output(),
+    listed(DEVICE, "irq-info", 109, 16, &[ARGSZ, INDEX]).with_output(),
+    listed(DEVICE, "reset", 111, 0, &[]),
 ];
 
 /// How many of the buffer's first bytes an accepted request prints, if it prints them at all.
