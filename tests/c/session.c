@@ -14,55 +14,57 @@
                        sizeof(((struct kernel *)0)->field) == sizeof(((ours *)0)->name),                                                \
                    #kernel "." #field)
 
+// Every struct begins with these two.
+#define SAME_START(kernel, ours)                                                                                                        \
+    SAME_FIELD(kernel, argsz, ours, argsz, 0);                                                                                          \
+    SAME_FIELD(kernel, flags, ours, flags, 4)
+
 _Static_assert(sizeof(struct vfio_iommu_type1_dma_map) == 32, "map");
-SAME_FIELD(vfio_iommu_type1_dma_map, argsz, glint_dma_map, argsz, 0);
-SAME_FIELD(vfio_iommu_type1_dma_map, flags, glint_dma_map, flags, 4);
+SAME_START(vfio_iommu_type1_dma_map, glint_dma_map);
 SAME_FIELD(vfio_iommu_type1_dma_map, vaddr, glint_dma_map, memory, 8);
 SAME_FIELD(vfio_iommu_type1_dma_map, iova, glint_dma_map, device, 16);
 SAME_FIELD(vfio_iommu_type1_dma_map, size, glint_dma_map, size, 24);
 
 _Static_assert(sizeof(struct vfio_iommu_type1_dma_unmap) == 24, "unmap");
-SAME_FIELD(vfio_iommu_type1_dma_unmap, argsz, glint_dma_unmap, argsz, 0);
-SAME_FIELD(vfio_iommu_type1_dma_unmap, flags, glint_dma_unmap, flags, 4);
+SAME_START(vfio_iommu_type1_dma_unmap, glint_dma_unmap);
 SAME_FIELD(vfio_iommu_type1_dma_unmap, iova, glint_dma_unmap, device, 8);
 SAME_FIELD(vfio_iommu_type1_dma_unmap, size, glint_dma_unmap, size, 16);
 
 // Later headers add capabilities behind the first 16 bytes.
 _Static_assert(sizeof(struct vfio_iommu_type1_info) >= 16, "iommu info");
-SAME_FIELD(vfio_iommu_type1_info, argsz, glint_iommu_info, argsz, 0);
-SAME_FIELD(vfio_iommu_type1_info, flags, glint_iommu_info, flags, 4);
+SAME_START(vfio_iommu_type1_info, glint_iommu_info);
 SAME_FIELD(vfio_iommu_type1_info, iova_pgsizes, glint_iommu_info, page_sizes, 8);
 
 _Static_assert(sizeof(struct vfio_device_info) >= 16, "device info");
-SAME_FIELD(vfio_device_info, argsz, glint_device_info, argsz, 0);
-SAME_FIELD(vfio_device_info, flags, glint_device_info, flags, 4);
+SAME_START(vfio_device_info, glint_device_info);
 SAME_FIELD(vfio_device_info, num_regions, glint_device_info, regions, 8);
 SAME_FIELD(vfio_device_info, num_irqs, glint_device_info, irqs, 12);
 
 _Static_assert(sizeof(struct vfio_region_info) == 32, "region info");
-SAME_FIELD(vfio_region_info, argsz, glint_region_info, argsz, 0);
-SAME_FIELD(vfio_region_info, flags, glint_region_info, flags, 4);
+SAME_START(vfio_region_info, glint_region_info);
 SAME_FIELD(vfio_region_info, index, glint_region_info, index, 8);
 SAME_FIELD(vfio_region_info, cap_offset, glint_region_info, reserved, 12);
 SAME_FIELD(vfio_region_info, size, glint_region_info, size, 16);
 SAME_FIELD(vfio_region_info, offset, glint_region_info, offset, 24);
 
 _Static_assert(sizeof(struct vfio_irq_info) == 16, "irq info");
-SAME_FIELD(vfio_irq_info, argsz, glint_irq_info, argsz, 0);
-SAME_FIELD(vfio_irq_info, flags, glint_irq_info, flags, 4);
+SAME_START(vfio_irq_info, glint_irq_info);
 SAME_FIELD(vfio_irq_info, index, glint_irq_info, index, 8);
 SAME_FIELD(vfio_irq_info, count, glint_irq_info, count, 12);
 
 // A request's number is the low byte of the kernel's.
-_Static_assert(_IOC_NR(VFIO_GET_API_VERSION) == GLINT_GET_API_VERSION, "api version");
-_Static_assert(_IOC_NR(VFIO_CHECK_EXTENSION) == GLINT_CHECK_EXTENSION, "check extension");
-_Static_assert(_IOC_NR(VFIO_IOMMU_GET_INFO) == GLINT_IOMMU_GET_INFO, "iommu info");
-_Static_assert(_IOC_NR(VFIO_IOMMU_MAP_DMA) == GLINT_IOMMU_MAP_DMA, "map");
-_Static_assert(_IOC_NR(VFIO_IOMMU_UNMAP_DMA) == GLINT_IOMMU_UNMAP_DMA, "unmap");
-_Static_assert(_IOC_NR(VFIO_DEVICE_GET_INFO) == GLINT_DEVICE_GET_INFO, "device info");
-_Static_assert(_IOC_NR(VFIO_DEVICE_GET_REGION_INFO) == GLINT_DEVICE_GET_REGION_INFO, "region info");
-_Static_assert(_IOC_NR(VFIO_DEVICE_GET_IRQ_INFO) == GLINT_DEVICE_GET_IRQ_INFO, "irq info");
-_Static_assert(_IOC_NR(VFIO_DEVICE_RESET) == GLINT_DEVICE_RESET, "reset");
+#define SAME_NUMBER(name) _Static_assert(_IOC_NR(VFIO_##name) == GLINT_##name, #name)
+
+SAME_NUMBER(GET_API_VERSION);
+SAME_NUMBER(CHECK_EXTENSION);
+SAME_NUMBER(IOMMU_GET_INFO);
+SAME_NUMBER(IOMMU_MAP_DMA);
+SAME_NUMBER(IOMMU_UNMAP_DMA);
+SAME_NUMBER(DEVICE_GET_INFO);
+SAME_NUMBER(DEVICE_GET_REGION_INFO);
+SAME_NUMBER(DEVICE_GET_IRQ_INFO);
+SAME_NUMBER(DEVICE_RESET);
+
 _Static_assert(VFIO_TYPE1v2_IOMMU == GLINT_TYPE1V2_IOMMU, "extension");
 _Static_assert(VFIO_DMA_MAP_FLAG_READ == GLINT_READ && VFIO_DMA_MAP_FLAG_WRITE == GLINT_WRITE, "rights");
 
