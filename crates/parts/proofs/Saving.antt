@@ -5,8 +5,7 @@ use native.Mathlib.Omega.{arith}
 use mathlib.Core.Path.{_≡_, refl, sym, _∙_, ap}
 use mathlib.Core.Bool.{Bool, true, false}
 use mathlib.Core.List.{List, [], _++_}
-use mathlib.Core.Option.{none, some}
-use lib.ListN.{length, getD, take, length-append}
+use lib.ListN.{length, take, length-append}
 use lib.Seq.{sets, length-sets, length-take-le}
 use borrow.Author.Tests.{ltb-false}
 use Rattle.answer.specs.declared.Verdict.the-variants.{Pass}
@@ -14,11 +13,10 @@ use Rattle.answer.proofs.Checks.{then-pass, when-pass}
 use Rattle.wire.specs.Field.{bytesOf}
 use Rattle.wire.proofs.Laws.{length-bytes, sets-then}
 use Rattle.registers.specs.Rows.{rowCount, kindOf, selectorOf, sizeOf}
-use Rattle.registers.specs.Values.{offered}
-use Rattle.registers.specs.File.{File, current, valueIn, fileOf, registerOf}
+use Rattle.registers.specs.File.{File, current, valueIn}
 use Rattle.registers.specs.declared.Register.{Register}
 use Rattle.registers.proofs.Rows.{size-most}
-use Rattle.registers.proofs.File.{absent, current-kept, value-set, value-unset, value-written}
+use Rattle.registers.proofs.File.{value-set, value-unset, features, features-row, features-whole, features-set}
 use Rattle.parts.specs.Step.{headerSize}
 use Rattle.parts.specs.Load.{flagsOf}
 use Rattle.parts.specs.Save.{encoded, partOf, savedFrom, saved, saveChecks}
@@ -90,35 +88,11 @@ module _ (file : File) (i : ℕ) (lt : i < rowCount) where
       pub count-part : length (rest file i) ≡ headerSize + sizeOf i + length (rest file (i + 1))
       count-part = ap length rest-part ∙ length-append (encoded i (take (sizeOf i) (r .bytes))) _ ∙ ap (λ (n : ℕ). n + length (rest file (i + 1))) part-long
 
--- ---- what a row shows
-
--- the register that code has for offered features
-abbrev pub features : Register
-features = registerOf (some (bytesOf 8 offered))
-
-features-row : (file : File) → valueIn 0 features ≡ current file 0
-unfolding current sizeOf bytesOf
-features-row file = value-written 0 (bytesOf 8 offered) refl
-
-pub features-whole : length (features .bytes) ≡ 32
-unfolding registerOf bytesOf
-features-whole = refl
-
-features-set : features .set ≡ true
-unfolding registerOf
-features-set = refl
+-- ---- the part of offered features, which comes first
 
 pub features-room : (file : File) → headerSize + sizeOf 0 ≤ length (saved file)
 unfolding saved
 features-room file = omega (arith, count-part file 0 (omega arith) features (features-row file) features-whole features-set)
-
--- the register in a slot, as code reads it
-pub kept-row : (slots : List Register) (i : ℕ) (r : Register) → (r ≡ getD slots i absent) × (length (getD slots i absent .bytes) ≡ 32)
-    → (valueIn (i + 1) r ≡ current (fileOf (record { slots = slots })) (i + 1)) × (length (r .bytes) ≡ 32)
-kept-row slots i r e =
-    let at : i + 1 - 1 ≡ i = omega arith in
-    let shown = current-kept (record { slots = slots }) (i + 1) (omega arith) in
-    (ap (valueIn (i + 1)) (e .0) ∙ sym (rw at at shown), ap (λ (x : Register). length (x .bytes)) (e .0) ∙ e .1)
 
 -- ---- the loop that counts
 

@@ -285,7 +285,7 @@ fn saved_length(registers: Registers) -> usize
     let mut n: usize = HEADER_SIZE + registers::size_of(0);
     let mut i: usize = 0;
     while i < 14 {
-        let r = registers::whole(slots[i]);
+        let r = slots[i];
         if r.set {
             n = n + HEADER_SIZE + registers::size_of(i + 1);
         }
@@ -319,7 +319,7 @@ pub fn save(registers: Registers, buf: &mut [u8]) -> usize
     let mut at: usize = HEADER_SIZE + registers::size_of(0);
     let mut i: usize = 0;
     while i < 14 {
-        let r = registers::whole(slots[i]);
+        let r = slots[i];
         if r.set {
             put_part(buf, at, i + 1, r);
             at = at + HEADER_SIZE + registers::size_of(i + 1);

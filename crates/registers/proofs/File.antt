@@ -65,6 +65,22 @@ pub value-written : (i : ℕ) (v : List ℕ) → length v ≡ sizeOf i → value
 unfolding valueIn registerOf pick
 value-written i v e = ap some (take-at v _ (sizeOf i) e)
 
+-- the register that code shows for the row of offered features
+abbrev pub features : Register
+features = registerOf (some (bytesOf 8 offered))
+
+pub features-row : (file : File) → valueIn 0 features ≡ current file 0
+unfolding current sizeOf bytesOf
+features-row file = value-written 0 (bytesOf 8 offered) refl
+
+pub features-whole : length (features .bytes) ≡ 32
+unfolding registerOf bytesOf
+features-whole = refl
+
+pub features-set : features .set ≡ true
+unfolding registerOf
+features-set = refl
+
 -- a value copied to the front of 32 zeros
 pub register-made : (v : List ℕ) → length v ≤ 32 → record { set = true; bytes = sets (replicate 32 0) 0 v } ≡ registerOf (some v)
 unfolding registerOf
@@ -93,6 +109,10 @@ pub current-kept : (registers : Registers) (i : ℕ) → 0 < i → current (file
 unfolding current fileOf
 current-kept registers zero h = absurd (not-suc-le-zero h)
 current-kept registers (suc k) h = let e : 1 + k ≡ suc k = omega arith in let f : suc k - 1 ≡ k = omega arith in rw (f, ← e) (file-at 1 (registers .slots) k)
+
+-- by its slot
+pub slot-row : (registers : Registers) (k : ℕ) → valueIn (k + 1) (getD (registers .slots) k absent) ≡ current (fileOf registers) (k + 1)
+slot-row registers k = let e : k + 1 - 1 ≡ k = omega arith in sym (rw e at (current-kept registers (k + 1) (omega arith)))
 
 pub length-file : (i : ℕ) (l : List Register) → length (fileFrom i l) ≡ length l
 unfolding fileFrom

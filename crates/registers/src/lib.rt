@@ -299,25 +299,17 @@ pub fn offered() -> Register
     Register { set: true, bytes }
 }
 
-// The same register: its bytes are 32, as its type says, which a proof learns from this contract.
-pub fn whole(r: Register) -> Register
-    ensures { λ x. ⌜ (x ≡ r) × (length (r .bytes) ≡ 32) ⌝ }
-{
-    r
-}
-
 // The register that a row shows.
 pub fn current(registers: Registers, row: usize) -> Register
     requires { ⌜ row < rowCount ⌝ }
     ensures { λ r. ⌜ (valueIn row r ≡ currentIn (fileOf registers) row) × (length (r .bytes) ≡ 32) ⌝ }
 {
     if row == 0 {
-        return whole(offered());
+        return offered();
     }
     let slots = registers.slots;
     let i = row - 1;
-    let r = slots[i];
-    whole(r)
+    slots[i]
 }
 
 fn passes(verdict: Verdict) -> bool

@@ -1,15 +1,17 @@
 -- `parts::save` meets its contract: the parts of the slots before `i` are written, and of row 0.
-use Prim.Native.Nat.{ℕ, _+_, _-_, _≤_}
+use Prim.Native.Nat.{ℕ, _+_, _-_, _≤_, _<_}
 use native.Mathlib.Omega.{arith}
 use mathlib.Core.Path.{_≡_, _∙_, ap}
 use mathlib.Core.Logic.{⊎-elim}
-use lib.ListN.{length, take}
+use lib.ListN.{length, getD, take}
 use lib.Seq.{sets, length-sets}
 use Rattle.registers.specs.Rows.{sizeOf}
-use Rattle.registers.specs.File.{current, valueIn, fileOf}
+use Rattle.registers.specs.File.{fileOf}
+use Rattle.registers.specs.declared.Register.{Register}
 use Rattle.registers.proofs.Rows.{size-most}
+use Rattle.registers.proofs.File.{absent, features, features-whole, slot-row, slot-whole}
 use Rattle.parts.specs.Save.{encoded}
-use Rattle.parts.proofs.Saving.{features, features-whole, features-room, kept-row, Left, left-start, left-all, left-end, left-none, left-room, left-more}
+use Rattle.parts.proofs.Saving.{features-room, Left, left-start, left-all, left-end, left-none, left-room, left-more}
 use borrow.Author.Needs.{needs}
 use Rattle.parts.proofs.save.Statement.{statement}
 use Rattle.parts.proofs.save.Tie as tie
@@ -37,14 +39,11 @@ add-at c = omega (arith, c .size-of .ensures, size-most 0 (omega arith))
 loop-holds : tie.Need-loop-holds Inv-loop μ-loop
 loop-holds c = rw (c .size-of .ensures) (left-start _ _)
 
-mul-whole : tie.Need-mul-whole Inv-loop μ-loop
-mul-whole c = search needs
+mul-r : tie.Need-mul-r Inv-loop μ-loop
+mul-r c = search needs
 
-array-copy-out-whole : tie.Need-array-copy-out-whole Inv-loop μ-loop
-array-copy-out-whole c = search needs
-
-whole-requires : tie.Need-whole-requires Inv-loop μ-loop
-whole-requires c κs = search needs
+array-copy-out-r : tie.Need-array-copy-out-r Inv-loop μ-loop
+array-copy-out-r c = search needs
 
 -- the buffer that has the part of offered features
 first : (c : tie.After-put-part Inv-loop μ-loop)
@@ -57,25 +56,23 @@ long c =
     let a = c .before .before .before .before .before .args in
     ap length (first c) ∙ length-sets (a .buf .now) 0 (encoded 0 (take (sizeOf 0) (features .bytes)))
 
--- the register that is read
-kept : (c : tie.After-whole Inv-loop μ-loop)
-    → let l = c .before .before .before in
-    let a = l .before .before .before .before .before .before .before .before .before .args in
-    (valueIn (l .loop .i + 1) (c .whole .result) ≡ current (fileOf (a .registers)) (l .loop .i + 1)) × (length (c .whole .result .bytes) ≡ 32)
-kept c =
-    let l = c .before .before .before in
-    let a = l .before .before .before .before .before .before .before .before .before .args in
-    kept-row (a .registers .slots) (l .loop .i) (c .whole .result) (c .whole .ensures)
+-- the register of the slot at hand
+abbrev slot : (c : tie.At-loop Inv-loop μ-loop) → Register
+slot c = getD (c .before .before .before .before .before .before .before .before .before .args .registers .slots) (c .loop .i) absent
+
+whole : (c : tie.At-loop Inv-loop μ-loop) → c .loop .i < 14 → length (slot c .bytes) ≡ 32
+whole c here =
+    let s = c .before .before .before .before .before .before .before .before .before in
+    slot-whole (s .args .registers) _ (s .good .0) (c .loop .i) here
 
 -- the part of a row has room in the buffer
 room : (c : tie.Then1 Inv-loop μ-loop)
-    → let l = c .before .before .before .before in
+    → let l = c .before .before .before in
     l .loop .at + 16 + sizeOf (l .loop .i + 1) ≤ length (l .loop .buf)
 room c =
-    let m = c .before in
-    let l = m .before .before .before in
-    let e = kept m in
-    let fits = left-room _ _ _ _ _ (l .loop .inv) (omega (arith, m .before .before .loop-test .taken)) (m .whole .result) (e .0) (e .1) (c .if1 .taken) in
+    let l = c .before .before .before in
+    let here = c .before .before .loop-test .taken in
+    let fits = left-room _ _ _ _ _ (l .loop .inv) (omega arith) (slot l) (slot-row _ _) (whole l here) (c .if1 .taken) in
     let p = l .before .before .before .before in
     let given = p .before .before .before .before .before .pre in
     omega (arith, l .loop .inv .same, long p)
@@ -85,8 +82,8 @@ add-put-part c = search needs
 
 put-part-requires-2 : tie.Need-put-part-requires-2 Inv-loop μ-loop
 put-part-requires-2 c κs =
-    let m = c .before .before in
-    (omega (arith, m .before .before .loop-test .taken), kept m .1, room (c .before))
+    let t = c .before .before .before in
+    (omega (arith, t .loop-test .taken), whole (t .before) (t .loop-test .taken), room (c .before))
 
 add-at-2 : tie.Need-add-at-2 Inv-loop μ-loop
 add-at-2 c = omega (arith, room (c .before .before .before .before))
@@ -108,12 +105,12 @@ loop-less c = search needs
 
 loop-again : tie.Need-loop-again Inv-loop μ-loop
 loop-again c =
-    let m = c .before in
-    let l = m .before .before .before in
-    let e = kept m in
+    let t = c .before .before in
+    let l = t .before in
+    let here = t .loop-test .taken in
     ⊎-elim
-    (λ w. left-more _ _ _ _ _ (l .loop .inv) (omega (arith, m .before .before .loop-test .taken)) (m .whole .result) (e .0) (e .1) (w .0 .taken) _ _ (w .6 ∙ w .2 .ensures) (w .7 ∙ ap (λ (z : ℕ). l .loop .at + 16 + z) (w .5 .ensures)))
-    (λ w. left-none _ _ _ _ _ (l .loop .inv) (omega (arith, m .before .before .loop-test .taken)) (m .whole .result) (e .0) (w .0 .left) _ _ (w .1) (w .2))
+    (λ w. left-more _ _ _ _ _ (l .loop .inv) (omega arith) (slot l) (slot-row _ _) (whole l here) (w .0 .taken) _ _ (w .6 ∙ w .2 .ensures) (w .7 ∙ ap (λ (z : ℕ). l .loop .at + 16 + z) (w .5 .ensures)))
+    (λ w. left-none _ _ _ _ _ (l .loop .inv) (omega arith) (slot l) (slot-row _ _) (w .0 .left) _ _ (w .1) (w .2))
     (c .if1 .came)
 
 same-length : tie.Need-same-length Inv-loop μ-loop
@@ -140,9 +137,8 @@ save-spec =
     size-of-requires
     add-at
     loop-holds
-    mul-whole
-    array-copy-out-whole
-    whole-requires
+    mul-r
+    array-copy-out-r
     add-put-part
     put-part-requires-2
     add-at-2

@@ -1,11 +1,12 @@
 -- `parts::saved_length` meets its contract: the slots before `i` are counted, and row 0.
-use Prim.Native.Nat.{ℕ, _+_, _-_}
+use Prim.Native.Nat.{ℕ, _+_, _-_, _<_}
 use native.Mathlib.Omega.{arith}
 use mathlib.Core.Path.{_∙_, ap}
 use mathlib.Core.Logic.{⊎-elim}
 use Rattle.registers.specs.File.{fileOf}
 use Rattle.registers.proofs.Rows.{size-most}
-use Rattle.parts.proofs.Saving.{kept-row, Count, count-start, count-end, count-none, count-more}
+use Rattle.registers.proofs.File.{slot-row, slot-whole}
+use Rattle.parts.proofs.Saving.{Count, count-start, count-end, count-none, count-more}
 use borrow.Author.Needs.{needs}
 use Rattle.parts.proofs.saved_length.Statement.{statement}
 use Rattle.parts.proofs.saved_length.Tie as tie
@@ -25,17 +26,14 @@ add-n c = omega (arith, c .size-of .ensures, size-most 0 (omega arith))
 loop-holds : tie.Need-loop-holds Inv-loop μ-loop
 loop-holds c = rw (c .size-of .ensures) (count-start _)
 
-mul-whole : tie.Need-mul-whole Inv-loop μ-loop
-mul-whole c = search needs
+mul-r : tie.Need-mul-r Inv-loop μ-loop
+mul-r c = search needs
 
-array-copy-out-whole : tie.Need-array-copy-out-whole Inv-loop μ-loop
-array-copy-out-whole c = search needs
-
-whole-requires : tie.Need-whole-requires Inv-loop μ-loop
-whole-requires c κs = search needs
+array-copy-out-r : tie.Need-array-copy-out-r Inv-loop μ-loop
+array-copy-out-r c = search needs
 
 add-n-2 : tie.Need-add-n-2 Inv-loop μ-loop
-add-n-2 c = omega (arith, c .before .before .before .before .loop .inv .small)
+add-n-2 c = omega (arith, c .before .before .before .loop .inv .small)
 
 add-size-of : tie.Need-add-size-of Inv-loop μ-loop
 add-size-of c = search needs
@@ -45,7 +43,7 @@ size-of-requires-2 c κs = search needs
 
 add-n-3 : tie.Need-add-n-3 Inv-loop μ-loop
 add-n-3 c =
-    let l = c .before .before .before .before .before in
+    let l = c .before .before .before .before in
     omega (arith, l .loop .inv .small, c .size-of2 .ensures, size-most (l .loop .i + 1) (omega arith))
 
 add-i : tie.Need-add-i Inv-loop μ-loop
@@ -57,11 +55,13 @@ loop-less c = search needs
 loop-again : tie.Need-loop-again Inv-loop μ-loop
 loop-again c =
     let m = c .before in
-    let l = m .before .before .before in
-    let e = kept-row _ _ (m .whole .result) (m .whole .ensures) in
+    let l = m .before .before in
+    let s = l .before .before .before in
+    let here : l .loop .i < 14 = m .before .loop-test .taken in
+    let shown = slot-row (s .args .registers) (l .loop .i) in
     ⊎-elim
-    (λ w. count-more _ _ _ (l .loop .inv) (omega (arith, m .before .before .loop-test .taken)) (m .whole .result) (e .0) (e .1) (w .0 .taken) _ (w .2 ∙ ap (λ (z : ℕ). l .loop .n + 16 + z) (w .1 .ensures)))
-    (λ w. count-none _ _ _ (l .loop .inv) (omega (arith, m .before .before .loop-test .taken)) (m .whole .result) (e .0) (w .0 .left) _ (w .1))
+    (λ w. count-more _ _ _ (l .loop .inv) (omega arith) _ shown (slot-whole (s .args .registers) _ (s .good .0) (l .loop .i) here) (w .0 .taken) _ (w .2 ∙ ap (λ (z : ℕ). l .loop .n + 16 + z) (w .1 .ensures)))
+    (λ w. count-none _ _ _ (l .loop .inv) (omega arith) _ shown (w .0 .left) _ (w .1))
     (c .if1 .came)
 
 returns : tie.Need-returns Inv-loop μ-loop
@@ -76,9 +76,8 @@ saved-length-spec =
     size-of-requires
     add-n
     loop-holds
-    mul-whole
-    array-copy-out-whole
-    whole-requires
+    mul-r
+    array-copy-out-r
     add-n-2
     add-size-of
     size-of-requires-2
