@@ -1,36 +1,35 @@
 -- Laws of the register file, and of the registers that code keeps for it.
 use Prim.Native.Nat.{ℕ, zero, suc, _+_, _-_, _≤_, _<_}
 use native.Mathlib.Nat.{not-suc-le-zero, add-zero, add-suc, suc-add, sub-zero, zero-sub, suc-sub-suc}
+use native.Mathlib.Numerals.{add-one}
 use native.Mathlib.Omega.{arith}
 use mathlib.Core.Path.{_≡_, refl, sym, _∙_, ap}
-use mathlib.Core.Bool.{Bool, true, false, false≢true, true≢false}
+use mathlib.Core.Bool.{Bool, true, false, false≢true}
 use mathlib.Core.List.{List, [], _∷_, map}
 use mathlib.Core.Option.{Option, none, some}
-use lib.ListN.{length, getD, set, take, drop, replicate}
-use lib.Seq.{sets, take-at, sets-eq, length-take-le}
-use lib.Dec.{ltb}
+use lib.ListN.{length, getD, set, take, drop, replicate, length-map, drop-of-length-le}
+use lib.Seq.{sets, take-at, drop-cons, sets-eq}
 use mir.Val.{Val}
 use base.Fml.{Fml}
 use denote.Shadow.{shadow}
 use denote.Array.{each}
 use denote.Laws.{Is}
 use denote.Struct.Declared.{row}
-use borrow.Author.Tests.{eq-eqb, eqb-true, ltb-true, ltb-false}
-use Rattle.answer.specs.Tests.{_and_, _or_, pick, isSome}
+use borrow.Author.Tests.{eq-eqb, eqb-true}
+use Rattle.answer.specs.Tests.{_and_, pick, isSome}
 use Rattle.answer.specs.Checks.{_then_, _when_, _unless_, passes}
 use Rattle.answer.specs.declared.Verdict.{Verdict}
 use Rattle.answer.specs.declared.Verdict.the-variants.{Pass, Fail}
-use Rattle.answer.proofs.Tests.{and-true, and-made, and-false, is-false, below}
+use Rattle.answer.proofs.Tests.{and-true, and-made, and-false}
 use Rattle.answer.proofs.Arrays.{length-mapped}
 use Rattle.wire.specs.Field.{field, bytesOf}
-use Rattle.registers.specs.Rows.{CommonField, DeviceStatus, rowCount, statusRow, kindOf, sizeOf}
+use Rattle.registers.specs.Rows.{statusRow, kindOf, sizeOf}
 use Rattle.registers.specs.Values.{offered, contentChecks, valueChecks}
 use Rattle.registers.specs.File.{File, current, soundFrom, soundValue, soundFile, valueIn, fileFrom, fileOf, registerOf, slotsOf, sizedFrom}
 use Rattle.registers.specs.declared.Register.{Register}
 use Rattle.registers.specs.declared.Registers.{Registers}
 use Rattle.registers.proofs.Registers.{the-type}
-use Rattle.registers.proofs.Rows.{kinds-within, size-most}
-use Rattle.registers.proofs.Values.{value-size, sized-checks, any-content}
+use Rattle.registers.proofs.Values.{value-size}
 
 -- what a list of registers reads as past its end
 abbrev pub absent : Register
@@ -155,18 +154,10 @@ pub sound-cons : (i : ℕ) (x : Option (List ℕ)) (file : File) → soundFrom i
 unfolding soundFrom
 sound-cons i x file = refl
 
--- a file is sound where each of its values is
-sound-at : (i : ℕ) (file : File) (k : ℕ) → soundFrom i file ≡ true → soundValue (i + k) (getD file k none) ≡ true
-unfolding soundValue
-sound-at i [] k h = refl
-sound-at i (x ∷ file) zero h = rw add-zero (and-true _ _ (sym (sound-cons i x file) ∙ h) .0)
-sound-at i (x ∷ file) (suc k) h = rw (add-suc, ← suc-add) (sound-at (suc i) file k (and-true _ _ (sym (sound-cons i x file) ∙ h) .1))
-
-sound-each : (i : ℕ) (file : File) → ((k : ℕ) → k < length file → soundValue (i + k) (getD file k none) ≡ true) → soundFrom i file ≡ true
-unfolding soundFrom
-sound-each i [] all = refl
-sound-each i (x ∷ file) all =
-    and-made _ _ (rw add-zero at (all 0 (omega arith))) (sound-each (suc i) file (λ k lt. rw (suc-add, ← add-suc) (all (suc k) (omega arith))))
+sound-at : (i : ℕ) (file : File) (k : ℕ) (v : List ℕ) → soundFrom i file ≡ true → getD file k none ≡ some v → valueChecks (i + k) false v ≡ Pass
+sound-at i [] k v h e = absurd (none≢some e)
+sound-at i (x ∷ file) zero v h e = rw add-zero (sound-value i v (ap (soundValue i) (sym e) ∙ and-true _ _ (sym (sound-cons i x file) ∙ h) .0))
+sound-at i (x ∷ file) (suc k) v h e = rw (add-suc, ← suc-add) (sound-at (suc i) file k v (and-true _ _ (sym (sound-cons i x file) ∙ h) .1) e)
 
 offered-sound : valueChecks 0 false (bytesOf 8 offered) ≡ Pass
 unfolding valueChecks contentChecks sizeOf kindOf bytesOf field pick _then_ _when_ _unless_
@@ -176,7 +167,7 @@ offered-sound = refl
 pub current-sound : (file : File) (i : ℕ) (v : List ℕ) → soundFrom 1 file ≡ true → current file i ≡ some v → valueChecks i false v ≡ Pass
 unfolding current
 current-sound file zero v h e = ap (valueChecks 0 false) (some-same (sym e)) ∙ offered-sound
-current-sound file (suc k) v h e = let i : 1 + k ≡ suc k = omega arith in rw (← i) (sound-value _ v (ap (soundValue _) (sym e) ∙ sound-at 1 file k h))
+current-sound file (suc k) v h e = let i : 1 + k ≡ suc k = omega arith in rw (← i) (sound-at 1 file k v h e)
 
 -- values that are accepted have their rows' sizes
 pub sound-sized : (i : ℕ) (file : File) → soundFrom i file ≡ true → sizedFrom i file ≡ true
@@ -201,29 +192,29 @@ unfolding current
 current-sized file zero v h e = ap length (some-same (sym e)) ∙ value-size 0 false _ offered-sound
 current-sized file (suc k) v h e = let i : 1 + k ≡ suc k = omega arith in rw (← i) (sized-at 1 file k v h e)
 
--- ---- the soundness of the registers that code keeps
+module _ (registers : Registers) where
+  pub sound-status : getD (registers .slots) 5 absent .set ≡ false → false ≡ soundFile (fileOf registers)
+  unfolding soundFile
+  sound-status e =
+      sym (and-false _ _ (ap isSome (current-kept registers statusRow (omega arith)) ∙ set-is statusRow _ ∙ e))
 
--- of a register that is set only the content of its value is left to check: its bytes are enough for any row
-pub held-sound : (i : ℕ) (r : Register) → i < rowCount → length (r .bytes) ≡ 32 → r .set ≡ true
-    → passes (contentChecks (kindOf i) (take (sizeOf i) (r .bytes))) ≡ soundValue i (valueIn i r)
-unfolding soundValue
-held-sound i r lt long h =
-    rw (value-set i r h, sized-checks i (take (sizeOf i) (r .bytes)) (length-take-le _ _ (omega (arith, size-most i lt))))
+  pub sound-rest : getD (registers .slots) 5 absent .set ≡ true → soundFile (fileOf registers) ≡ soundFrom 1 (fileFrom 1 (registers .slots))
+  unfolding soundFile _and_ fileOf
+  sound-rest e = rw (ap isSome (current-kept registers statusRow (omega arith)) ∙ set-is statusRow _ ∙ e)
 
-pub unset-sound : (i : ℕ) (r : Register) → r .set ≡ false → true ≡ soundValue i (valueIn i r)
-unfolding soundValue
-unset-sound i r h = rw (value-unset i r h)
+-- the loop that looks through the registers, at slot `i`
+module _ (l : List Register) (i : ℕ) where
+  pub sound-more : i < length l
+      → soundFrom (i + 1) (fileFrom (i + 1) (drop i l))
+      ≡ (soundValue (i + 1) (valueIn (i + 1) (getD l i absent)) and soundFrom (i + 1 + 1) (fileFrom (i + 1 + 1) (drop (i + 1) l)))
+  unfolding fileFrom
+  sound-more lt = simp add-one (rw (drop-cons l i absent lt) (sound-cons _ _ _))
 
--- common fields and status hold any value of their size
-any-sound : (i : ℕ) (r : Register) → 2 ≤ i → i ≤ statusRow → length (r .bytes) ≡ 32 → soundValue i (valueIn i r) ≡ true
-unfolding kindOf below _and_ _or_ passes
-any-sound i r l h long = go (r .set) refl
-  where
-    go : (t : Bool) → r .set ≡ t → soundValue i (valueIn i r) ≡ true
-    go true e =
-        let b = kinds-within CommonField DeviceStatus 2 7 refl i l (omega arith) in
-        sym (held-sound i r (omega arith) long e) ∙ rw (any-content (kindOf i) (take (sizeOf i) (r .bytes)) (b .0) (b .1))
-    go false e = sym (unset-sound i r e)
+  pub sound-end : length l ≤ i → soundFrom (i + 1) (fileFrom (i + 1) (drop i l)) ≡ true
+  unfolding soundFrom fileFrom
+  sound-end le = rw (drop-of-length-le l le)
+
+-- ---- what owning the registers tells
 
 -- what each element of an array tells of itself where it is owned
 owned-at : {X Y : Type 0} (into : X → Y) (own : Y → List Val → Fml) (P : X → Type 0) → ((x : X) (u : Val) → shadow (own (into x) (u ∷ [])) → P x)
@@ -239,37 +230,3 @@ pub slot-whole : (registers : Registers) (vs : List Val) → Is (row the-type) r
 slot-whole registers vs owned k lt =
     let slots = owned .1 .1 .0 .1 in
     owned-at _ _ (λ (r : Register). length (r .bytes) ≡ 32) (λ r u s. length-mapped _ _ _ (r .bytes) 32 (s .1 .1 .1 .0 .1 .0 .1)) (registers .slots) _ (slots .1) absent k (omega (arith, length-mapped _ _ _ (registers .slots) 14 (slots .0 .1)))
-
-module _ (l : List Register) where
-  -- the register of slot `k`
-  abbrev pub SoundAt : ℕ → Type 0
-  SoundAt k = soundValue (k + 1) (valueIn (k + 1) (getD l k absent)) ≡ true
-
-  slot-sound : (k : ℕ) → soundValue (1 + k) (getD (fileFrom 1 l) k none) ≡ soundValue (k + 1) (valueIn (k + 1) (getD l k absent))
-  slot-sound k = let e : 1 + k ≡ k + 1 = omega arith in rw (file-at 1 l k, e)
-
-  status-set : isSome (current (fileFrom 1 l) statusRow) ≡ getD l 5 absent .set
-  unfolding current
-  status-set = set-at 1 l 5
-
-  pub no-status : getD l 5 absent .set ≡ false → false ≡ soundFile (fileFrom 1 l)
-  unfolding soundFile
-  no-status e = sym (and-false _ _ (status-set ∙ e))
-
-  pub slot-fault : (k : ℕ) → soundValue (k + 1) (valueIn (k + 1) (getD l k absent)) ≡ false → false ≡ soundFile (fileFrom 1 l)
-  unfolding soundFile
-  slot-fault k e = sym (is-false _ (λ t. true≢false (sym (sound-at 1 _ k (and-true _ _ t .1)) ∙ slot-sound k ∙ e)))
-
-  pub all-sound : getD l 5 absent .set ≡ true → ((k : ℕ) → k < length l → SoundAt k) → true ≡ soundFile (fileFrom 1 l)
-  unfolding soundFile
-  all-sound s all = sym (and-made _ _ (status-set ∙ s) (sound-each 1 _ (λ k lt. slot-sound k ∙ all k (rw length-file at lt))))
-
-  -- the slots that need no look are those of common fields and status
-  pub judged : ((k : ℕ) → k < length l → length (getD l k absent .bytes) ≡ 32) → SoundAt 0 → ((k : ℕ) → k < length l → 6 ≤ k → SoundAt k)
-      → (k : ℕ) → k < length l → SoundAt k
-  judged long first rest zero lt = first
-  judged long first rest (suc k) lt = go (ltb (suc k) 6) refl
-    where
-      go : (t : Bool) → ltb (suc k) 6 ≡ t → SoundAt (suc k)
-      go true e = any-sound (suc k + 1) _ (omega arith) (omega (arith, ltb-true (suc k) 6 e)) (long (suc k) lt)
-      go false e = rest (suc k) lt (ltb-false (suc k) 6 e)

@@ -3,21 +3,23 @@ use Prim.Native.Nat.{ℕ, zero, suc, _+_, _^_, _≤_, _<_}
 use native.Mathlib.Omega.{arith}
 use mathlib.Core.Path.{_≡_, refl, sym, _∙_, ap}
 use mathlib.Core.Bool.{Bool, true, false, not}
+use mathlib.Core.List.{map}
 use mathlib.Core.Logic.{_⊎_, inl, inr, ⊎-elim}
+use lib.ListN.{getD, List·getD-map}
 use lib.Dec.{eqb, ltb, leb}
 use borrow.Author.Tests.{eq-eqb, eqb-true, leb-true, le-leb, ltb-true, ltb-false, le-ltb}
 use Rattle.answer.specs.Tests.{_and_, _or_, pick}
 use Rattle.answer.proofs.Tests.{and-true, and-made, below, below-at}
-use Rattle.registers.specs.Rows.{rowCount, OfferedFeatures, DriverFeatures, QueueConfig, NotifyConfig, kindOf, selectorOf, sizeOf, rowFrom, rowOf, selects, listed}
+use Rattle.registers.specs.Rows.{Row, rows, noRow, rowCount, OfferedFeatures, DriverFeatures, QueueConfig, NotifyConfig, kindOf, selectorOf, sizeOf, rowFrom, rowOf, selects, listed}
 
--- what holds of each row of a range, which is computed
-pub ranged : (p : ℕ → Bool) (low high : ℕ) → below (λ i. ltb i low or p i) high ≡ true → (i : ℕ) → low ≤ i → i < high → p i ≡ true
-unfolding _or_
-ranged p low high all i l h = rw (le-ltb i low l) at (below-at (λ k. ltb k low or p k) high all i h)
+-- A column of the table: a list that computes to it has at each place what the row there has.
+pub column : (f : Row → ℕ) (i : ℕ) → getD (map f rows) i (f noRow) ≡ f (getD rows i noRow)
+column f i = List·getD-map f rows i noRow
 
--- a column that has one value over a range of rows
+-- A column that has one value over a range of rows, which is computed.
 pub in-range : (f : ℕ → ℕ) (x low high : ℕ) → below (λ i. ltb i low or eqb (f i) x) high ≡ true → (i : ℕ) → low ≤ i → i < high → x ≡ f i
-in-range f x low high all i l h = sym (eqb-true _ _ (ranged (λ k. eqb (f k) x) low high all i l h))
+unfolding _or_
+in-range f x low high all i l h = sym (eqb-true _ _ (rw (le-ltb i low l) at (below-at (λ k. ltb k low or eqb (f k) x) high all i h)))
 
 -- ---- rules of the rows
 
@@ -29,16 +31,11 @@ pub kind-fits : (i : ℕ) → i < rowCount → kindOf i < 256 ^ 2
 unfolding kindOf below _and_
 kind-fits i h = ltb-true _ _ (below-at (λ i. ltb (kindOf i) (256 ^ 2)) rowCount refl i h)
 
--- the types of a range of rows
-pub kinds-within : (least most low high : ℕ) → below (λ i. ltb i low or (leb least (kindOf i) and leb (kindOf i) most)) high ≡ true
-    → (i : ℕ) → low ≤ i → i < high → (least ≤ kindOf i) × (kindOf i ≤ most)
-kinds-within least most low high all i l h =
-    let b = and-true _ _ (ranged (λ i. leb least (kindOf i) and leb (kindOf i) most) low high all i l h) in
-    (leb-true _ _ (b .0), leb-true _ _ (b .1))
-
 pub kind-listed : (i : ℕ) → i < rowCount → (OfferedFeatures ≤ kindOf i) × (kindOf i ≤ NotifyConfig)
-unfolding kindOf below _and_ _or_
-kind-listed i h = kinds-within OfferedFeatures NotifyConfig 0 rowCount refl i (omega arith) h
+unfolding kindOf below _and_
+kind-listed i h =
+    let b = and-true _ _ (below-at (λ i. leb OfferedFeatures (kindOf i) and leb (kindOf i) NotifyConfig) rowCount refl i h) in
+    (leb-true _ _ (b .0), leb-true _ _ (b .1))
 
 pub selector-fits : (i : ℕ) → i < rowCount → selectorOf i < 256 ^ 8
 unfolding selectorOf below _and_

@@ -1,25 +1,22 @@
 -- Laws of what a value must satisfy.
-use Prim.Native.Nat.{ℕ, zero, suc, _%_, _^_, _≤_}
+use Prim.Native.Nat.{ℕ, zero, suc, _%_, _^_, _≤_, _<_}
+use native.Mathlib.Nat.{mod-eq-of-lt}
 use native.Mathlib.Omega.{arith}
-use mathlib.Core.Path.{_≡_, refl, sym, subst}
-use mathlib.Core.Bool.{Bool, true, false}
-use mathlib.Core.List.{List, [], _∷_}
-use mathlib.Core.Logic.{⊎-elim}
+use mathlib.Core.Path.{_≡_, refl, sym, _∙_}
+use mathlib.Core.Bool.{Bool, true, false, false≢true}
+use mathlib.Core.List.{List, []}
 use lib.ListN.{length}
-use lib.Dec.{T, eqb, eqb→eq}
-use mir.Facts.{or-yes}
-use mir.Val.{hasKey}
-use types.Run.{OneOf, hit}
-use borrow.Author.Tests.{eq-eqb, ne-eqb, leb-true, le-leb, eqb-true}
+use lib.Dec.{eqb, ltb}
+use borrow.Author.Tests.{eq-eqb, ne-eqb, leb-true, le-leb, eqb-true, ltb-true, ltb-false}
 use Rattle.answer.specs.Tests.{_and_, _or_, pick}
 use Rattle.answer.specs.Codes.{Value}
-use Rattle.answer.specs.Checks.{_then_, _when_, _unless_}
+use Rattle.answer.specs.Checks.{_then_, _unless_}
 use Rattle.answer.specs.declared.Verdict.the-variants.{Pass, Fail}
-use Rattle.answer.proofs.Tests.{and-true, is-false, below}
+use Rattle.answer.proofs.Tests.{and-true, is-false, below, below-at}
 use Rattle.answer.proofs.Checks.{then-pass, unless-pass}
 use Rattle.wire.specs.Field.{field}
-use Rattle.registers.specs.Rows.{OfferedFeatures, DriverFeatures, CommonField, DeviceStatus, QueueConfig, NotifyConfig, statusRow, kindOf, sizeOf}
-use Rattle.registers.specs.Values.{powerOfTwo, validQueue, contentChecks, valueChecks}
+use Rattle.registers.specs.Rows.{statusRow, sizeOf}
+use Rattle.registers.specs.Values.{powerOfTwo, validQueue, valueChecks}
 
 -- ---- the order of the checks
 
@@ -30,20 +27,43 @@ length-first = refl
 
 -- ---- powers of two
 
--- what holds of each power of two, which is computed, holds of any
-of-powers : (p : ℕ → Bool) (k : ℕ) → below (λ i. p (2 ^ i)) (suc k) ≡ true → (n : ℕ) → powerOfTwo k n ≡ true → p n ≡ true
-unfolding powerOfTwo below _or_
-of-powers p zero h n t = rw (eqb-true n 1 t) (and-true _ _ h .0)
-of-powers p (suc k) h n t = go (eqb n (2 ^ suc k)) refl t (of-powers p k (and-true _ _ h .1) n)
-  where
-    go : (s : Bool) → eqb n (2 ^ suc k) ≡ s → (s or powerOfTwo k n) ≡ true → (powerOfTwo k n ≡ true → p n ≡ true) → p n ≡ true
-    go true e u rest = rw (eqb-true n (2 ^ suc k) e) (and-true _ _ h .0)
-    go false e u rest = rest u
+-- two tests that say the same
+unfoldable same : Bool → Bool → Bool
+same true t = t
+same false true = false
+same false false = true
 
--- a number other than 1 and those of a list, among which all powers are
-pub no-power : (k : ℕ) (ks : List ℕ) (n : ℕ) → (n ≡ 1 → ⊥) → (OneOf ks n → ⊥) → below (λ i. hasKey (1 ∷ ks) (2 ^ i)) (suc k) ≡ true → powerOfTwo k n ≡ false
-no-power k ks n first other all =
-    is-false _ (λ t. ⊎-elim (λ a. first (sym (eqb→eq 1 n a))) (λ b. other (hit ks n b)) (or-yes (eqb 1 n) (hasKey ks n) (subst T (sym (of-powers (hasKey (1 ∷ ks)) k all n t)) tt)))
+same-eq : (s t : Bool) → same s t ≡ true → s ≡ t
+unfolding same
+same-eq true t h = sym h
+same-eq false true h = absurd (false≢true h)
+same-eq false false h = refl
+
+unfoldable pub divides : ℕ → Bool
+divides n = pick (eqb n 0) false (eqb (256 % n) 0)
+
+power-small : (n : ℕ) → n < 257 → divides n ≡ powerOfTwo 8 n
+unfolding below _and_ _or_ pick same divides powerOfTwo
+power-small n h = same-eq _ _ (below-at (λ n. same (divides n) (powerOfTwo 8 n)) 257 refl n h)
+
+power-most : (k n : ℕ) → 2 ^ k < n → powerOfTwo k n ≡ false
+unfolding powerOfTwo _or_
+power-most zero n h = ne-eqb n 1 (λ e. omega arith)
+power-most (suc k) n h = rw (ne-eqb n (2 ^ suc k) (λ e. omega arith)) (power-most k n (omega arith))
+
+divides-most : (n : ℕ) → 256 < n → divides n ≡ false
+unfolding divides pick
+divides-most n h =
+    let z : n ≡ 0 → ⊥ = λ e. omega arith in
+    rw (ne-eqb _ _ z, mod-eq-of-lt h)
+
+-- a power of two up to 256 is what divides 256
+pub power-is : (n : ℕ) → divides n ≡ powerOfTwo 8 n
+power-is n = go (ltb n 257) refl
+  where
+    go : (t : Bool) → ltb n 257 ≡ t → divides n ≡ powerOfTwo 8 n
+    go true e = power-small n (ltb-true _ _ e)
+    go false e = divides-most n (ltb-false _ _ e) ∙ sym (power-most 8 n (ltb-false _ _ e))
 
 -- ---- a queue's value
 
@@ -87,14 +107,3 @@ queue-last v a b c d e = rw (a, le-leb _ _ b, eq-eqb _ _ c, eq-eqb _ _ d, eq-eqb
 pub value-size : (i : ℕ) (twice : Bool) (v : List ℕ) → valueChecks i twice v ≡ Pass → length v ≡ sizeOf i
 unfolding valueChecks
 value-size i twice v h = eqb-true _ _ (unless-pass _ _ (then-pass _ _ h .0))
-
--- of a value of its row's size only the content is left to check
-pub sized-checks : (i : ℕ) (v : List ℕ) → length v ≡ sizeOf i → valueChecks i false v ≡ contentChecks (kindOf i) v
-unfolding valueChecks _then_ _when_ _unless_
-sized-checks i v e = rw (eq-eqb _ _ e)
-
--- a type that has no rule
-pub any-content : (kind : ℕ) (v : List ℕ) → CommonField ≤ kind → kind ≤ DeviceStatus → contentChecks kind v ≡ Pass
-unfolding contentChecks pick
-any-content kind v l h =
-    rw (ne-eqb kind OfferedFeatures (λ e. omega arith), ne-eqb kind DriverFeatures (λ e. omega arith), ne-eqb kind QueueConfig (λ e. omega arith), ne-eqb kind NotifyConfig (λ e. omega arith))

@@ -49,8 +49,10 @@ pub const ROWS: usize = 15;
 
 pub const STATUS_ROW: usize = 6;
 
-// Types, selector numbers and sizes go by ranges of rows: soundness asks for types and sizes in every call, and a constant table that is
-// indexed is built anew on the stack each time.
+const SELECTORS: [u64; 15] = [0, 0, 0, 8, 16, 22, 0, 0, 1, 2, 3, 0, 1, 2, 3];
+
+// Types and sizes go by ranges of rows: soundness asks for both of every register in every call, and a constant table that is indexed is
+// built anew on the stack each time.
 pub fn kind_of(row: usize) -> u64
     requires { ⌜ row < rowCount ⌝ }
     ensures { λ r. ⌜ r ≡ kindOf row ⌝ }
@@ -77,25 +79,7 @@ pub fn selector_of(row: usize) -> u64
     requires { ⌜ row < rowCount ⌝ }
     ensures { λ r. ⌜ r ≡ selectorOf row ⌝ }
 {
-    if row < 3 {
-        return 0;
-    }
-    if row < 4 {
-        return 8;
-    }
-    if row < 5 {
-        return 16;
-    }
-    if row < 6 {
-        return 22;
-    }
-    if row < 7 {
-        return 0;
-    }
-    if row < 11 {
-        return row as u64 - 7;
-    }
-    row as u64 - 11
+    SELECTORS[row]
 }
 
 pub fn size_of(row: usize) -> usize
@@ -189,15 +173,14 @@ fn only_offered(features: u64) -> bool
     features & OFFERED == features
 }
 
-// A power of two from 1 to 256.
+// A power of two from 1 to 256: a divisor of 256.
 fn is_power_of_two(n: u16) -> bool
     ensures { λ r. ⌜ r ≡ powerOfTwo 8 n ⌝ }
 {
-    match n {
-        1 => true,
-        2 | 4 | 8 | 16 | 32 | 64 | 128 | 256 => true,
-        _ => false,
+    if n == 0 {
+        return false;
     }
+    256 % n == 0
 }
 
 fn is_valid_queue(v: &[u8]) -> bool
@@ -321,7 +304,7 @@ fn passes(verdict: Verdict) -> bool
     }
 }
 
-// Whether a register is not set, or holds a value that setting accepts: its length is right, being the row's.
+// Whether a register is not set, or holds a value that setting accepts.
 fn is_sound(row: usize, r: Register) -> bool
     requires { ⌜ (row < rowCount) × (length (r .bytes) ≡ 32) ⌝ }
     ensures { λ x. ⌜ x ≡ soundValue row (valueIn row r) ⌝ }
@@ -331,12 +314,10 @@ fn is_sound(row: usize, r: Register) -> bool
     }
     let size = size_of(row);
     let bytes = r.bytes;
-    passes(check_content(row, &bytes[..size]))
+    passes(check_value(row, false, &bytes[..size]))
 }
 
-// Whether status is set, and every set register holds a value that setting accepts. Every call asks this, so only the registers whose
-// type has a rule are looked at: features, queues and notify values. The compiler unrolls so short a loop, and then makes no copy of the
-// registers.
+// Whether status is set, and every set register holds a value that setting accepts.
 pub fn sound(registers: Registers) -> bool
     ensures { λ r. ⌜ r ≡ soundFile (fileOf registers) ⌝ }
 {
@@ -345,11 +326,7 @@ pub fn sound(registers: Registers) -> bool
     if !status.set {
         return false;
     }
-    let features = slots[0];
-    if !is_sound(1, features) {
-        return false;
-    }
-    let mut i: usize = 6;
+    let mut i: usize = 0;
     while i < 14 {
         let r = slots[i];
         if !is_sound(i + 1, r) {

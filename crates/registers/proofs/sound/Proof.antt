@@ -1,27 +1,23 @@
--- `registers::sound` meets its contract: features are sound, and so are the slots from 6 on that come before `i`.
-use Prim.Native.Nat.{ℕ, _-_, _≤_, _<_}
+-- `registers::sound` meets its contract: the slots before `i` are sound.
+use Prim.Native.Nat.{_+_, _-_, _≤_}
 use native.Mathlib.Omega.{arith}
-use mathlib.Core.Path.{_≡_}
-use lib.ListN.{getD, length}
+use mathlib.Core.Path.{_≡_, sym, _∙_, ap}
+use mathlib.Core.Bool.{Bool}
+use lib.ListN.{drop, length}
 use borrow.Author.Tests.{not-true, not-false}
-use borrow.Author.Count.{below-more}
-use Rattle.answer.proofs.Tests.{found-false, found-true}
+use Rattle.answer.specs.Tests.{_and_}
+use Rattle.registers.specs.File.{soundFile, soundFrom, fileFrom, fileOf}
+use Rattle.registers.proofs.File.{slot-whole, sound-status, sound-rest, sound-more, sound-end}
 use Rattle.answer.proofs.Arrays.{length-mapped}
-use Rattle.registers.specs.File.{fileOf}
-use Rattle.registers.proofs.File.{absent, slot-whole, SoundAt, no-status, slot-fault, all-sound, judged}
 use borrow.Author.Needs.{needs}
 use Rattle.registers.proofs.sound.Statement.{statement}
 use Rattle.registers.proofs.sound.Tie as tie
 
 abbrev Inv-loop : tie.InvT-loop
-Inv-loop slots i₀ i = (i ≤ 14) × ((k : ℕ) → k < i → 6 ≤ k → SoundAt slots k)
+Inv-loop slots i₀ i = (i ≤ 14) × (soundFile (fileFrom 1 slots) ≡ soundFrom (i + 1) (fileFrom (i + 1) (drop i slots)))
 
 abbrev μ-loop : tie.MeasureT-loop
 μ-loop slots i₀ i = 14 - i
-
--- the bytes of each register are 32
-whole : (c : tie.Start Inv-loop μ-loop) (k : ℕ) → k < 14 → length (getD (c .args .registers .slots) k absent .bytes) ≡ 32
-whole c = slot-whole (c .args .registers) _ (c .good .0)
 
 sub-status : tie.Need-sub-status Inv-loop μ-loop
 sub-status c = search needs
@@ -33,21 +29,11 @@ array-copy-out-status : tie.Need-array-copy-out-status Inv-loop μ-loop
 array-copy-out-status c = search needs
 
 returns : tie.Need-returns Inv-loop μ-loop
-unfolding fileOf
-returns c = no-status _ (not-true _ (c .if1 .taken))
-
-array-copy-out-features : tie.Need-array-copy-out-features Inv-loop μ-loop
-array-copy-out-features c = search needs
-
-is-sound-requires : tie.Need-is-sound-requires Inv-loop μ-loop
-is-sound-requires c κs = (omega arith, whole (c .before .before .before .before .before) 0 (omega arith))
-
-returns-2 : tie.Need-returns-2 Inv-loop μ-loop
-unfolding fileOf
-returns-2 c = slot-fault _ 0 (found-false (c .before .is-sound .ensures) (c .if2 .taken))
+returns c = sound-status _ (not-true _ (c .if1 .taken))
 
 loop-holds : tie.Need-loop-holds Inv-loop μ-loop
-loop-holds c = (omega arith, λ k lt le. absurd (omega arith))
+unfolding fileOf
+loop-holds c = (omega arith, sound-rest _ (not-false _ (c .if1 .left)))
 
 mul-r : tie.Need-mul-r Inv-loop μ-loop
 mul-r c = search needs
@@ -58,13 +44,28 @@ array-copy-out-r c = search needs
 add-is-sound : tie.Need-add-is-sound Inv-loop μ-loop
 add-is-sound c = search needs
 
-is-sound-requires-2 : tie.Need-is-sound-requires-2 Inv-loop μ-loop
-is-sound-requires-2 c κs =
-    (omega arith, whole (c .before .before .before .before .before .before .before .before .before .before) (c .before .before .loop .i) (omega arith))
+is-sound-requires : tie.Need-is-sound-requires Inv-loop μ-loop
+is-sound-requires c κs =
+    let l = c .before .before in
+    let s = l .before .before .before .before .before in
+    (omega arith, slot-whole (s .args .registers) _ (s .good .0) (l .loop .i) (omega arith))
 
-returns-3 : tie.Need-returns-3 Inv-loop μ-loop
-unfolding fileOf
-returns-3 c = slot-fault _ _ (found-false (c .before .is-sound2 .ensures) (c .if3 .taken))
+-- all are sound if this one is and those behind it are
+turn : (c : tie.After-is-sound Inv-loop μ-loop)
+    → let l = c .before .before .before in
+    let i = l .loop .i in
+    let slots = l .before .before .before .before .before .args .registers .slots in
+    soundFile (fileFrom 1 slots) ≡ (c .is-sound .result and soundFrom (i + 1 + 1) (fileFrom (i + 1 + 1) (drop (i + 1) slots)))
+turn c =
+    let l = c .before .before .before in
+    let i = l .loop .i in
+    let slots = l .before .before .before .before .before .args .registers .slots in
+    let long : length slots ≡ 14 = search (needs, length-mapped) in
+    l .loop .inv .1 ∙ sound-more slots i (omega arith) ∙ ap (λ (t : Bool). t and soundFrom (i + 1 + 1) (fileFrom (i + 1 + 1) (drop (i + 1) slots))) (sym (c .is-sound .ensures))
+
+returns-2 : tie.Need-returns-2 Inv-loop μ-loop
+unfolding _and_ fileOf
+returns-2 c = sym (turn (c .before) ∙ rw (not-true (c .before .is-sound .result) (c .if2 .taken)))
 
 add-i : tie.Need-add-i Inv-loop μ-loop
 add-i c = search needs
@@ -73,19 +74,15 @@ loop-less : tie.Need-loop-less Inv-loop μ-loop
 loop-less c = search needs
 
 loop-again : tie.Need-loop-again Inv-loop μ-loop
-loop-again c =
-    (omega arith, below-more _ _ (c .before .before .before .before .loop .inv .1) (λ le. found-true (c .before .is-sound2 .ensures) (c .if3 .left)))
+unfolding _and_
+loop-again c = (omega arith, turn (c .before) ∙ rw (not-false (c .before .is-sound .result) (c .if2 .left)))
 
-returns-4 : tie.Need-returns-4 Inv-loop μ-loop
+returns-3 : tie.Need-returns-3 Inv-loop μ-loop
 unfolding fileOf
-returns-4 c =
+returns-3 c =
     let l = c .before in
-    let e = l .before in
-    let s = e .before .before .before .before .before .before .before in
-    let slots = s .args .registers .slots in
-    let n : length slots ≡ 14 = search (needs, length-mapped) in
-    all-sound slots (not-false _ (e .before .before .before .if1 .left))
-    (judged slots (λ k lt. whole s k (omega arith)) (found-true (e .before .is-sound .ensures) (e .if2 .left)) (λ k lt le. l .loop .inv .1 k (omega arith) le))
+    let long : length (l .before .before .before .before .before .args .registers .slots) ≡ 14 = search (needs, length-mapped) in
+    sym (l .loop .inv .1 ∙ sound-end _ (l .loop .i) (omega arith))
 
 pub sound-spec : {M : Type 1} → statement M
 sound-spec =
@@ -97,16 +94,13 @@ sound-spec =
     mul-status
     array-copy-out-status
     returns
-    array-copy-out-features
-    is-sound-requires
-    returns-2
     loop-holds
     mul-r
     array-copy-out-r
     add-is-sound
-    is-sound-requires-2
-    returns-3
+    is-sound-requires
+    returns-2
     add-i
     loop-less
     loop-again
-    returns-4)
+    returns-3)
