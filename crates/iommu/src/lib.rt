@@ -13,7 +13,8 @@ use address::DeviceAddress;
 use address::MemoryAddress;
 use answer::Verdict;
 
-const CAPACITY: usize = 64;
+// How many mappings a table holds.
+pub const CAPACITY: usize = 64;
 
 // A mapping shows `size` bytes of memory from `memory` on at the device addresses from `device` on. Its rights are READ 1, WRITE 2.
 #[repr(C)]
@@ -27,7 +28,7 @@ pub struct Mapping {
 // The table: the first `count` entries are in use, by rising device address. The others mean nothing.
 #[repr(C)]
 pub struct Table {
-    pub entries: [Mapping; 64],
+    pub entries: [Mapping; CAPACITY],
     pub count: usize,
 }
 

@@ -164,7 +164,7 @@ fn check_part(row: usize, twice: bool, kind: u64, flags: u8, selector: u64, v: &
 }
 
 // The end of the stream, at place `at`: a register that no part named is not set any more.
-fn finish(registers: Registers, slots: [Register; 14], at: usize) -> Loaded
+fn finish(registers: Registers, slots: [Register; registers::SLOTS], at: usize) -> Loaded
     requires { ⌜ slots ≡ slotsOf (fileFrom 1 slots) ⌝ }
     ensures { λ r. ⌜ ((x : Option (List ℕ)) → r ≡ loadedOf (finished (seenIn x slots) at) registers) ⌝ }
 {
@@ -187,7 +187,7 @@ fn load_parts(registers: Registers, s: &[u8]) -> Loaded
     ensures { λ r. ⌜ r ≡ loadedOf (fromStart (now (s .entry))) registers ⌝ }
 {
     let none = registers::unset();
-    let mut slots = [none; 14];
+    let mut slots = [none; registers::SLOTS];
     let mut offered = false;
     let mut at: usize = 0;
     loop {
@@ -284,7 +284,7 @@ fn saved_length(registers: Registers) -> usize
     let slots = registers.slots;
     let mut n: usize = HEADER_SIZE + registers::size_of(0);
     let mut i: usize = 0;
-    while i < 14 {
+    while i < registers::SLOTS {
         let r = slots[i];
         if r.set {
             n = n + HEADER_SIZE + registers::size_of(i + 1);
@@ -318,7 +318,7 @@ pub fn save(registers: Registers, buf: &mut [u8]) -> usize
     put_part(buf, 0, 0, features);
     let mut at: usize = HEADER_SIZE + registers::size_of(0);
     let mut i: usize = 0;
-    while i < 14 {
+    while i < registers::SLOTS {
         let r = slots[i];
         if r.set {
             put_part(buf, at, i + 1, r);

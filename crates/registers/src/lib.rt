@@ -27,7 +27,7 @@ pub struct Register {
 // values. Offered features are constant and not kept.
 #[repr(C)]
 pub struct Registers {
-    pub slots: [Register; 14],
+    pub slots: [Register; SLOTS],
 }
 
 // ---- the table of registers
@@ -43,6 +43,9 @@ const DEVICE_STATUS: u64 = 0x103;
 const QUEUE_CONFIG: u64 = 0x104;
 
 const NOTIFY_CONFIG: u64 = 0x105;
+
+// How many registers are kept.
+pub const SLOTS: usize = 14;
 
 // The table has a row for offered features, row 0, and one for each register that is kept: row `i + 1` is that of slot `i`.
 pub const ROWS: usize = 15;
@@ -327,7 +330,7 @@ pub fn sound(registers: Registers) -> bool
         return false;
     }
     let mut i: usize = 0;
-    while i < 14 {
+    while i < SLOTS {
         let r = slots[i];
         if !is_sound(i + 1, r) {
             return false;
@@ -342,7 +345,7 @@ pub fn reset() -> Registers
     ensures { λ r. ⌜ r .slots ≡ slotsOf resetFile ⌝ }
 {
     let none = unset();
-    let mut slots = [none; 14];
+    let mut slots = [none; SLOTS];
     let zero: [u8; 1] = [0];
     let status = holding(&zero);
     slots[STATUS_ROW - 1] = status;

@@ -81,7 +81,7 @@ fn nothing() -> State {
     State {
         memory_length: 0,
         table: Table {
-            entries: [m; 64],
+            entries: [m; iommu::CAPACITY],
             count: 0,
         },
         registers: registers::reset(),
