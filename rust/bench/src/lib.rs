@@ -85,9 +85,20 @@ fn contenders(measure: &mut Measure, rivals: &[Rival]) -> Vec<Contender> {
 #[cfg(test)]
 mod tests {
     use super::*;
+    use glintbasket::raw::{Mapping, Registers};
 
-    /// What a call leaves: buffer, memory, marks, and the state but for what means nothing.
-    fn left(measure: &Measure, program: Program) -> (bool, Vec<u8>, Vec<u8>, Vec<u8>, usize) {
+    /// What a call answers and leaves. Table entries past the count mean nothing.
+    #[derive(PartialEq)]
+    struct Left {
+        accepted: bool,
+        buffer: Vec<u8>,
+        memory: Vec<u8>,
+        marks: Vec<u8>,
+        mappings: Vec<Mapping>,
+        registers: Registers,
+    }
+
+    fn left(measure: &Measure, program: Program) -> Left {
         let mut world = World::new(measure.held, measure.world.size.min(65536));
         world.state = measure.world.state;
         world.map = measure.world.map;
@@ -96,13 +107,15 @@ mod tests {
         let stream = measure.world.buffer.get();
         world.buffer.get_mut().copy_from_slice(stream);
         let accepted = program(&mut world, 1);
-        (
+        let table = &world.state.table;
+        Left {
             accepted,
-            world.buffer.get().to_vec(),
-            world.memory.get().to_vec(),
-            world.marks.get().to_vec(),
-            world.state.table.count,
-        )
+            buffer: world.buffer.get().to_vec(),
+            memory: world.memory.get().to_vec(),
+            marks: world.marks.get().to_vec(),
+            mappings: table.entries[..table.count].to_vec(),
+            registers: world.state.registers,
+        }
     }
 
     #[test]
