@@ -6,9 +6,9 @@ use mathlib.Core.Bool.{Bool, true, false}
 use mathlib.Core.List.{List, [], _∷_}
 use mathlib.Core.Option.{Option, none, some}
 use lib.Dec.{ltb}
-use borrow.Author.Tests.{leb-true, ltb-true, le-leb, lt-ltb}
+use borrow.Author.Tests.{leb-true, ltb-true, le-leb}
 use Rattle.answer.specs.Tests.{pick}
-use Rattle.answer.proofs.Tests.{and-true, and-made, is-false}
+use Rattle.answer.proofs.Tests.{and-true, and-made}
 use Rattle.address.specs.declared.DeviceAddress.{DeviceAddress}
 use Rattle.address.specs.declared.MemoryAddress.{MemoryAddress}
 use Rattle.iommu.specs.declared.Mapping.{Mapping}
@@ -21,13 +21,6 @@ use Rattle.iommu.proofs.Changes.{apart-facts, overlaps-split}
 pub holds-facts : (m : Mapping) (d : DeviceAddress) → holds m d ≡ true → (m .device .0 ≤ d .0) × (d .0 < end m)
 unfolding holds
 holds-facts m d e = let p = and-true _ _ e in (leb-true _ _ (p .0), ltb-true _ _ (p .1))
-
-pub holds-made : (m : Mapping) (d : DeviceAddress) → m .device .0 ≤ d .0 → d .0 < end m → holds m d ≡ true
-unfolding holds
-holds-made m d p q = and-made _ _ (le-leb _ _ p) (lt-ltb _ _ q)
-
-pub holds-behind : (m : Mapping) (d : DeviceAddress) → end m ≤ d .0 → holds m d ≡ false
-holds-behind m d h = is-false (holds m d) (λ e. omega (arith, holds-facts m d e))
 
 -- ---- the mapping that holds an address
 

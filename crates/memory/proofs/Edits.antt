@@ -1,11 +1,10 @@
 -- Laws of edits: a run of stores, and a run of marks cleared, as what they make of the lists of bytes and marks.
 use Prim.Native.Nat.{ℕ, zero, suc}
 use native.Mathlib.Numerals.{add-one}
-use mathlib.Core.Path.{_≡_, refl, sym, _∙_, ap}
+use mathlib.Core.Path.{_≡_, refl, sym, _∙_}
 use mathlib.Core.List.{List, [], _∷_, _++_}
-use lib.ListN.{length, replicate, length-set, length-replicate}
+use lib.ListN.{length, replicate, length-set}
 use lib.Seq.{sets}
-use Rattle.wire.proofs.Laws.{sets-all}
 use Rattle.answer.specs.Tests.{pick}
 use Rattle.address.specs.Address.{memoryAddress, memoryOffset}
 use Rattle.address.specs.declared.MemoryAddress.{MemoryAddress}
@@ -26,10 +25,6 @@ pub edited-clears : (n : ℕ) (a : MemoryAddress) (m : Memory) → edited (clear
 unfolding edited edit clears marked pick
 edited-clears zero a m = refl
 edited-clears (suc n) a m = edited-clears n (memoryOffset a 1) (edit (clear a) m) ∙ simp add-one
-
--- all marks cleared
-pub edited-clear-all : (m : Memory) → edited (clears (memoryAddress 0) (length (m .shadow))) m ≡ memoryOf (m .bytes) (replicate (length (m .shadow)) 0)
-edited-clear-all m = edited-clears (length (m .shadow)) (memoryAddress 0) m ∙ ap (memoryOf (m .bytes)) (sets-all (m .shadow) (replicate (length (m .shadow)) 0) (length-replicate _ 0))
 
 -- ---- what code that writes the lists has made
 

@@ -1,6 +1,6 @@
 -- Loading a stream of parts (document 01, "Registers and parts").
 use Prim.Native.Nat.{ℕ, zero, suc, _^_}
-use mathlib.Core.Bool.{Bool, true}
+use mathlib.Core.Bool.{Bool}
 use mathlib.Core.List.{List, _∷_}
 use mathlib.Core.Option.{Option, none, some}
 use lib.ListN.{length, getD, set, drop, replicate}
@@ -14,7 +14,7 @@ use Rattle.answer.specs.declared.Verdict.{Verdict}
 use Rattle.answer.specs.declared.Verdict.the-variants.{Pass, Fail}
 use Rattle.registers.specs.Rows.{OfferedFeatures, rowCount, statusRow, rowOf, selects, listed, selectorWidth}
 use Rattle.registers.specs.Values.{valueChecks}
-use Rattle.registers.specs.File.{File, fileFrom, registerOf, slotsOf}
+use Rattle.registers.specs.File.{File, fileFrom, slotsOf}
 use Rattle.registers.specs.declared.Register.{Register}
 use Rattle.registers.specs.declared.Registers.{Registers}
 use Rattle.parts.specs.Step.{stepAt, valueTo}

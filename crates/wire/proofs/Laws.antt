@@ -1,11 +1,10 @@
 -- Laws of little-endian fields, each proved once over the width.
 use Prim.Native.Nat.{ℕ, zero, suc, _+_, _*_, _-_, _/_, _%_, _^_, _≤_, _<_}
 use native.Mathlib.Nat.{pow-suc, add-suc, suc-add, add-zero, zero-add, mul-comm, mul-assoc}
-use native.Mathlib.Numerals.{add-one}
 use native.Mathlib.Omega.{arith}
 use mathlib.Core.Path.{_≡_, refl, sym, _∙_, ap}
 use mathlib.Core.List.{List, [], _∷_, _++_, append-nil}
-use lib.ListN.{length, getD, set, take, drop, replicate, length-set, length-drop, drop-of-length-le}
+use lib.ListN.{length, getD, set, drop, replicate, length-set, length-drop, drop-of-length-le}
 use lib.Seq.{sets, sets-eq, length-take-le, drop-cons, getD-drop, getD-set-other, getD-set-same}
 use Rattle.wire.specs.Field.{field, bytesOf, part}
 
@@ -62,11 +61,6 @@ getD-sets-other l o (x ∷ xs) i h =
 pub sets-then : (l xs ys : List ℕ) (a b : ℕ) → a + length xs ≡ b → sets (sets l a xs) b ys ≡ sets l a (xs ++ ys)
 sets-then l [] ys a b e = let f : b ≡ a = omega arith in rw f
 sets-then l (x ∷ xs) ys a b e = sets-then (set l a x) xs ys (suc a) b (omega arith)
-
--- a field that lies before or behind what is written stays
-pub field-sets-other : (l : List ℕ) (o : ℕ) (xs : List ℕ) (p w : ℕ) → (((i : ℕ) → i < w → o ≤ p + i → p + i < o + length xs → ⊥))
-    → field (sets l o xs) p w ≡ field l p w
-field-sets-other l o xs p w h = field-cong (sets l o xs) l p w (λ i lt. getD-sets-other l o xs (p + i) (h i lt))
 
 -- a number written at a place is read back there
 pub field-sets : (l : List ℕ) (o w x : ℕ) → o + w ≤ length l → x < 256 ^ w → field (sets l o (bytesOf w x)) o w ≡ x

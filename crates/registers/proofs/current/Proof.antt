@@ -1,8 +1,7 @@
 -- `registers::current` meets its contract.
 use Prim.Native.Nat.{_-_}
 use native.Mathlib.Omega.{arith}
-use mathlib.Core.Path.{sym, _∙_, ap}
-use Rattle.registers.specs.File.{valueIn}
+use mathlib.Core.Path.{sym}
 use Rattle.registers.proofs.File.{features-row, features-whole, current-kept, slot-whole}
 use borrow.Author.Needs.{needs}
 use Rattle.registers.proofs.current.Statement.{statement}
