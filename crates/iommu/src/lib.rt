@@ -86,13 +86,18 @@ pub fn sound(table: Table, size: u64) -> bool
     ensures { λ r. ⌜ r ≡ (leb (table .count) capacity and soundTable size (inUse table)) ⌝ }
 {
     let count = table.count;
+    if count == 0 {
+        return true;
+    }
     if CAPACITY < count {
         return false;
     }
+    // Entries are indexed in a copy of the table, and one that holds nothing is not copied.
+    let held = table;
     let mut low: u64 = 0;
     let mut i: usize = 0;
     while i < count {
-        let m = table.entries[i];
+        let m = held.entries[i];
         if m.device.0 < low {
             return false;
         }

@@ -15,19 +15,27 @@ use Rattle.iommu.proofs.sound.Statement.{statement}
 use Rattle.iommu.proofs.sound.Tie as tie
 
 abbrev Inv-loop : tie.InvT-loop
-Inv-loop size table count low₀ i₀ low i = Left (soundTable size (inUse table)) (soundFrom size low) table i
+Inv-loop size count table low₀ i₀ low i = Left (soundTable size (inUse table)) (soundFrom size low) table i
 
 abbrev μ-loop : tie.MeasureT-loop
-μ-loop size table count low₀ i₀ low i = count - i
+μ-loop size count table low₀ i₀ low i = count - i
 
+-- a table that holds nothing
 returns : tie.Need-returns Inv-loop μ-loop
-returns c = sym (and-false _ _ (lt-leb _ _ (c .if1 .taken)))
+unfolding soundTable soundFrom
+returns c =
+    let none = c .if1 .taken in
+    let long : length (c .before .args .table .entries) ≡ 64 = search (needs, length-mapped) in
+    and-second (le-leb (c .before .args .table .count) 64 (omega arith)) (pass-end (pass-start (soundFrom (c .before .args .size) 0) (c .before .args .table) (omega arith)) (omega arith))
+
+returns-2 : tie.Need-returns-2 Inv-loop μ-loop
+returns-2 c = sym (and-false _ _ (lt-leb _ _ (c .if2 .taken)))
 
 loop-holds : tie.Need-loop-holds Inv-loop μ-loop
 unfolding soundTable
 loop-holds c =
-    let long : length (c .before .args .t1 .entries) ≡ 64 = search (needs, length-mapped) in
-    pass-start _ (c .before .args .t1) (omega arith)
+    let long : length (c .before .before .args .table .entries) ≡ 64 = search (needs, length-mapped) in
+    pass-start _ (c .before .before .args .table) (omega arith)
 
 mul-m : tie.Need-mul-m Inv-loop μ-loop
 mul-m c = search needs
@@ -35,27 +43,27 @@ mul-m c = search needs
 element-copy-out-m : tie.Need-element-copy-out-m Inv-loop μ-loop
 element-copy-out-m c = search needs
 
-returns-2 : tie.Need-returns-2 Inv-loop μ-loop
+returns-3 : tie.Need-returns-3 Inv-loop μ-loop
 unfolding soundFrom
-returns-2 c =
+returns-3 c =
     let d = c .before .before .before in
-    and-second (le-leb _ _ (d .before .before .if1 .left))
-    (pass-stop (d .before .loop .inv) _ (d .loop-test .taken) (λ ms. and-false _ _ (and-false _ _ (lt-leb _ _ (c .if2 .taken)))))
+    and-second (le-leb _ _ (d .before .before .if2 .left))
+    (pass-stop (d .before .loop .inv) _ (d .loop-test .taken) (λ ms. and-false _ _ (and-false _ _ (lt-leb _ _ (c .if3 .taken)))))
 
 sound-mapping-requires : tie.Need-sound-mapping-requires Inv-loop μ-loop
 sound-mapping-requires c κs = search needs
 
-returns-3 : tie.Need-returns-3 Inv-loop μ-loop
+returns-4 : tie.Need-returns-4 Inv-loop μ-loop
 unfolding soundFrom _and_
-returns-3 c =
+returns-4 c =
     let e = c .before .before in
     let d = e .before .before .before in
-    and-second (le-leb _ _ (d .before .before .if1 .left))
-    (pass-stop (d .before .loop .inv) _ (d .loop-test .taken) (λ ms. rw (le-leb _ _ (e .if2 .left), found-false (c .before .sound-mapping .ensures) (c .if3 .taken))))
+    and-second (le-leb _ _ (d .before .before .if2 .left))
+    (pass-stop (d .before .loop .inv) _ (d .loop-test .taken) (λ ms. rw (le-leb _ _ (e .if3 .left), found-false (c .before .sound-mapping .ensures) (c .if4 .taken))))
 
 add-low : tie.Need-add-low Inv-loop μ-loop
 add-low c =
-    let f = mapping-facts _ _ (found-true (c .before .before .sound-mapping .ensures) (c .before .if3 .left)) in
+    let f = mapping-facts _ _ (found-true (c .before .before .sound-mapping .ensures) (c .before .if4 .left)) in
     omega arith
 
 add-i : tie.Need-add-i Inv-loop μ-loop
@@ -70,11 +78,11 @@ loop-again c =
     let e = c .before .before .before in
     let d = e .before .before .before in
     pass-on (d .before .loop .inv) _ (d .loop-test .taken)
-    (λ ms. rw (le-leb _ _ (e .if2 .left), found-true (c .before .before .sound-mapping .ensures) (c .before .if3 .left)))
+    (λ ms. rw (le-leb _ _ (e .if3 .left), found-true (c .before .before .sound-mapping .ensures) (c .before .if4 .left)))
 
-returns-4 : tie.Need-returns-4 Inv-loop μ-loop
+returns-5 : tie.Need-returns-5 Inv-loop μ-loop
 unfolding soundFrom
-returns-4 c = and-second (le-leb _ _ (c .before .before .if1 .left)) (pass-end (c .before .loop .inv) (c .loop-test .left))
+returns-5 c = and-second (le-leb _ _ (c .before .before .if2 .left)) (pass-end (c .before .loop .inv) (c .loop-test .left))
 
 pub sound-spec : {M : Type 1} → statement M
 sound-spec =
@@ -83,14 +91,15 @@ sound-spec =
     Inv-loop
     μ-loop
     returns
+    returns-2
     loop-holds
     mul-m
     element-copy-out-m
-    returns-2
-    sound-mapping-requires
     returns-3
+    sound-mapping-requires
+    returns-4
     add-low
     add-i
     loop-less
     loop-again
-    returns-4)
+    returns-5)
