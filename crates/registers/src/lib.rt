@@ -265,15 +265,30 @@ pub fn unset() -> Register
     }
 }
 
-// A register that holds the value `v`, with zeros behind it.
+// A register that holds the `n` bytes of `v`, with zeros behind them.
+fn holding_bytes(v: &[u8], n: usize) -> Register
+    requires { ⌜ (n ≡ length (now v)) × (n ≤ 32) ⌝ }
+    ensures { λ r. ⌜ r ≡ registerOf (some (now (v .entry))) ⌝ }
+{
+    let mut bytes = [0u8; 32];
+    wire::copy(&mut bytes, 0, v, 0, n);
+    Register { set: true, bytes }
+}
+
+// A register that holds the value `v`, with zeros behind it. A size that is written out is copied by a load and a store.
 pub fn holding(v: &[u8]) -> Register
     requires { ⌜ length (now v) ≤ 32 ⌝ }
     ensures { λ r. ⌜ r ≡ registerOf (some (now (v .entry))) ⌝ }
 {
-    let mut bytes = [0u8; 32];
     let n = v.len();
-    wire::copy(&mut bytes, 0, v, 0, n);
-    Register { set: true, bytes }
+    match n {
+        1 => holding_bytes(v, 1),
+        2 => holding_bytes(v, 2),
+        4 => holding_bytes(v, 4),
+        8 => holding_bytes(v, 8),
+        32 => holding_bytes(v, 32),
+        _ => holding_bytes(v, n),
+    }
 }
 
 // What the row of offered features shows.
