@@ -1,6 +1,6 @@
 -- What loading and saving parts have to answer and leave, by what is known where they return.
 use Prim.Native.Nat.{ℕ}
-use mathlib.Core.Path.{_≡_, refl, sym, _∙_, ap}
+use mathlib.Core.Path.{_≡_, refl, sym, _∙_, ap, subst}
 use mathlib.Core.Bool.{true}
 use mathlib.Core.List.{List}
 use lib.ListN.{length}
@@ -22,6 +22,12 @@ use Rattle.emulator.specs.Contract.{writes, written, withRegistersIn, Me
 use Rattle.emulator.specs.declared.State.{State}
 use Rattle.emulator.proofs.Meets.{refused-by, accepted}
 
+-- a refused stream leaves the registers that were given
+pub kept : (a : Answer File) (old : Registers) (code place : ℕ) → verdict a ≡ Fail code place → loadedOf a old .registers ≡ old
+unfolding verdict loadedOf
+kept (done f) old code place e = never code place (sym e)
+kept (refused c p) old code place e = refl
+
 -- an accepted stream's registers are those of its file
 pub loaded : (a : Answer File) (old : Registers) (file : File) → verdict a ≡ Pass → loadedOf a old .registers ≡ record { slots = slotsOf (resultOr file a) }
 unfolding verdict loadedOf resultOr
@@ -34,16 +40,19 @@ module _ (s : State) (good : sound (machineOf s) ≡ true) (m : Memory) where
       its-verdict : verdict (load (s .running) stream) ≡ l .verdict
       its-verdict = sym (ap (λ (x : Loaded). x .verdict) is ∙ loaded-verdict (load (s .running) stream) (s .registers))
 
-      pub load-refused : (code place : ℕ) → l .verdict ≡ Fail code place → Meets loadParts stream s m (refused code place) stream m s
+      pub load-refused : (code place : ℕ) → l .verdict ≡ Fail code place → Meets loadParts stream s m (refused code place) stream m (withRegistersIn (l .registers) s)
       unfolding usable given ownChecks emulatorOf machineOf
-      load-refused code place e = refused-by loadParts stream s m code place good (its-verdict ∙ e)
+      load-refused code place e =
+          let no = its-verdict ∙ e in
+          let same : l .registers ≡ s .registers = ap (λ (x : Loaded). x .registers) is ∙ kept (load (s .running) stream) (s .registers) code place no in
+          subst (λ (r : Registers). Meets loadParts stream s m (refused code place) stream m (withRegistersIn r s)) (sym same) (refused-by loadParts stream s m code place good no)
 
-      pub load-done : (s′ : State) → l .verdict ≡ Pass → s′ ≡ withRegistersIn (l .registers) s → Meets loadParts stream s m (done (value 0)) stream m s′
+      pub load-done : l .verdict ≡ Pass → Meets loadParts stream s m (done (value 0)) stream m (withRegistersIn (l .registers) s)
       unfolding usable given ownChecks effect emulatorOf machineOf writes written filled edited withRegisters
-      load-done s′ e f =
+      load-done e =
           let ok = its-verdict ∙ e in
           let registers = ap (λ (x : Loaded). x .registers) is ∙ loaded (load (s .running) stream) (s .registers) (fileOf (s .registers)) ok in
-          accepted loadParts stream s m stream m s′ good ok refl refl (f ∙ ap (λ (r : Registers). withRegistersIn r s) registers)
+          accepted loadParts stream s m stream m (withRegistersIn (l .registers) s) good ok refl refl (ap (λ (r : Registers). withRegistersIn r s) registers)
 
   module _ (buf : List ℕ) where
     pub save-refused : (code place : ℕ) → saveChecks (s .running) (fileOf (s .registers)) (length buf) ≡ Fail code place → Meets saveParts buf s m (refused code place) buf m s

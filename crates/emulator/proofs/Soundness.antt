@@ -1,13 +1,13 @@
 -- Refusal 1, test by test.
 use Prim.Native.Nat.{ℕ, _≤_, _<_}
 use mathlib.Core.Path.{_≡_, refl, sym, _∙_}
-use mathlib.Core.Bool.{Bool, true, false}
+use mathlib.Core.Bool.{Bool, true, false, not}
 use mathlib.Core.List.{List}
 use lib.ListN.{length}
 use lib.Dec.{leb}
-use borrow.Author.Tests.{le-leb, lt-leb, eq-eqb, ne-eqb, leb-true, eqb-true}
+use borrow.Author.Tests.{eq-eqb, ne-eqb, leb-true, eqb-true}
 use Rattle.answer.specs.Tests.{_and_}
-use Rattle.answer.proofs.Tests.{and-true, first-not, second-not, third-is}
+use Rattle.answer.proofs.Tests.{and-true, and-false, and-second, first-not, second-not, third-is, found-false, found-true}
 use Rattle.address.specs.Address.{memoryLimit}
 use Rattle.iommu.specs.Table.{capacity, soundTable, inUse, Sound}
 use Rattle.iommu.proofs.Soundness.{sound-table}
@@ -20,22 +20,25 @@ use Rattle.emulator.specs.declared.State.{State}
 -- ---- the kept state
 
 module _ (s : State) where
-  -- the table's test, as the code makes it
-  abbrev pub tableSound : Bool
-  tableSound = leb (s .table .count) capacity and soundTable (s .«memory_length») (inUse (s .table))
+  -- the tests of the noted length and of the mappings, as the code makes them
+  abbrev pub mappingsSound : Bool
+  mappingsSound = leb (s .«memory_length») memoryLimit and (leb (s .table .count) capacity and soundTable (s .«memory_length») (inUse (s .table)))
 
-  pub sound-long : memoryLimit < s .«memory_length» → false ≡ sound (machineOf s)
-  unfolding sound soundLength machineOf
-  sound-long h = first-not _ _ (lt-leb _ _ h)
+  pub sound-not : mappingsSound ≡ false → sound (machineOf s) ≡ false
+  unfolding sound soundLength soundMappings machineOf
+  sound-not h = and-false _ _ h
 
-  module _ (short : s .«memory_length» ≤ memoryLimit) where
-    pub sound-not : tableSound ≡ false → false ≡ sound (machineOf s)
-    unfolding sound soundLength soundMappings machineOf
-    sound-not h = second-not _ (le-leb _ _ short) h
+  pub sound-rest : mappingsSound ≡ true → sound (machineOf s) ≡ soundFile (fileOf (s .registers))
+  unfolding sound soundLength soundMappings machineOf
+  sound-rest h = sym (and-second h refl)
 
-    pub sound-rest : tableSound ≡ true → soundFile (fileOf (s .registers)) ≡ sound (machineOf s)
-    unfolding sound soundLength soundMappings machineOf
-    sound-rest h = third-is _ (le-leb _ _ short) h
+  -- what is known where the code has asked for both: p is what it found of length and mappings, and q of the registers
+  module _ {p q : Bool} (mappings : p ≡ mappingsSound) (file : q ≡ soundFile (fileOf (s .registers))) where
+    pub sound-both : not p ≡ false → not q ≡ false → sound (machineOf s) ≡ true
+    sound-both h g = sound-rest (found-true mappings h) ∙ found-true file g
+
+    pub sound-second-not : not p ≡ false → not q ≡ true → sound (machineOf s) ≡ false
+    sound-second-not h g = sound-rest (found-true mappings h) ∙ found-false file g
 
   -- what functions below may ask of the table
   pub sound-ready : sound (machineOf s) ≡ true → Sound (s .table) × (s .«memory_length» ≤ memoryLimit)

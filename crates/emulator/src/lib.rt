@@ -10,6 +10,10 @@ use registers::Registers;
 ghost use mathlib.Core.Path.{_≡_};
 ghost use mathlib.Core.List.{List, []};
 ghost use Prim.Native.Nat.{ℕ};
+ghost use lib.Dec.{leb};
+ghost use Rattle.answer.specs.Tests.{_and_};
+ghost use Rattle.address.specs.Address.{memoryLimit};
+ghost use Rattle.iommu.specs.Table.{capacity, soundTable, inUse};
 ghost use Rattle.memory.specs.Memory.{Memory, memoryOf};
 ghost use Rattle.emulator.specs.Machine.{machineOf, emulatorOf, both, sound as soundMachine, lendable as canLend, usable as canUse};
 ghost use Rattle.emulator.specs.Calls.{powerOn, lookUp, deviceRead, deviceWrite, hostWrite, hostRead, setRegister, readRegister, loadParts, saveParts};
@@ -32,22 +36,34 @@ pub struct Reply {
     pub state: State,
 }
 
+// An answer, and the registers to keep.
+pub struct Loaded {
+    pub answer: Answer,
+    pub registers: Registers,
+}
+
 // What look-up answers: memory address and rights, or a refusal's number and place.
 pub enum Location {
     At(MemoryAddress, u32),
     Refused(u32, u64),
 }
 
+// Whether the noted length and the mappings of a kept state are sound.
+fn sound_mappings(length: u64, table: Table) -> bool
+    ensures { λ r. ⌜ r ≡ (leb length memoryLimit and (leb (table .count) capacity and soundTable length (inUse table))) ⌝ }
+{
+    if address::MEMORY_LIMIT < length {
+        return false;
+    }
+    iommu::sound(table, length)
+}
+
 // Whether a kept state is sound.
 pub fn sound(state: State) -> bool
     ensures { λ r. ⌜ r ≡ soundMachine (machineOf state) ⌝ }
 {
-    let length = state.memory_length;
-    if address::MEMORY_LIMIT < length {
-        return false;
-    }
     let table = state.table;
-    if !iommu::sound(table, length) {
+    if !sound_mappings(state.memory_length, table) {
         return false;
     }
     let registers = state.registers;
@@ -281,31 +297,44 @@ pub fn read_register(state: State, kind: u64, selector: u64, buf: &mut [u8]) -> 
     }
 }
 
-// Loads a stream of parts: registers named take their values, all others become unset.
+// What loading a stream of parts answers, and the registers that it leaves: registers named take their values, all others become unset.
+// Soundness is asked piece by piece, here and in saving: a call with the whole state would copy it.
+pub fn load_registers(state: State, stream: &[u8]) -> Loaded
+    ensures { λ r. ⌜ ((m : Memory) → Meets loadParts (now (stream .entry)) state m (told (r .answer)) (now (stream .entry)) m (withRegistersIn (r .registers) state)) ⌝ }
+{
+    let table = state.table;
+    let registers = state.registers;
+    if !sound_mappings(state.memory_length, table) || !registers::sound(registers) {
+        return Loaded {
+            answer: Answer::Refused(answer::BAD_BENCH, 0),
+            registers,
+        };
+    }
+    let loaded = parts::load(registers, state.running, stream);
+    let next = loaded.registers;
+    let verdict = loaded.verdict;
+    match verdict {
+        Verdict::Fail(code, place) => Loaded {
+            answer: Answer::Refused(code, place),
+            registers: next,
+        },
+        Verdict::Pass => Loaded {
+            answer: Answer::Done(0),
+            registers: next,
+        },
+    }
+}
+
+// Loads a stream of parts.
 pub fn load_parts(state: State, stream: &[u8]) -> Reply
     ensures { λ r. ⌜ ((m : Memory) → Meets loadParts (now (stream .entry)) state m (told (r .answer)) (now (stream .entry)) m (r .state)) ⌝ }
 {
-    if !sound(state) {
-        return Reply {
-            answer: Answer::Refused(answer::BAD_BENCH, 0),
-            state,
-        };
-    }
-    let registers = state.registers;
-    let loaded = parts::load(registers, state.running, stream);
-    let verdict = loaded.verdict;
-    match verdict {
-        Verdict::Fail(code, place) => Reply {
-            answer: Answer::Refused(code, place),
-            state,
-        },
-        Verdict::Pass => {
-            let next = loaded.registers;
-            Reply {
-                answer: Answer::Done(0),
-                state: with_registers(state, next),
-            }
-        }
+    let loaded = load_registers(state, stream);
+    let answer = loaded.answer;
+    let registers = loaded.registers;
+    Reply {
+        answer,
+        state: with_registers(state, registers),
     }
 }
 
@@ -313,10 +342,11 @@ pub fn load_parts(state: State, stream: &[u8]) -> Reply
 pub fn save_parts(state: State, buf: &mut [u8]) -> Answer
     ensures { λ r. ⌜ ((m : Memory) → Meets saveParts (now (buf .entry)) state m (told r) (now (buf .exit)) m state) ⌝ }
 {
-    if !sound(state) {
+    let table = state.table;
+    let registers = state.registers;
+    if !sound_mappings(state.memory_length, table) || !registers::sound(registers) {
         return Answer::Refused(answer::BAD_BENCH, 0);
     }
-    let registers = state.registers;
     let verdict = parts::check_save(registers, state.running, buf.len());
     match verdict {
         Verdict::Fail(code, place) => Answer::Refused(code, place),
