@@ -16,7 +16,7 @@
  *
  * What the library takes for granted, because no call can test it:
  *   - a pointer is not null, also where its length is 0 (the second half sees to that), and its bytes may be read or written;
- *   - memory, marks and the buffer of one call do not overlap;
+ *   - memory, marks, the buffer of one call and a state that a pointer leads to do not overlap;
  *   - a bool in a state is 0 or 1. All else of a state may hold any values: a call refuses an unsound one with GLINT_BAD_BENCH.
  */
 #ifndef GLINTBASKET_H
@@ -147,7 +147,10 @@ typedef struct glint_registers {
     glint_register slots[GLINT_REGISTERS];
 } glint_registers;
 
-/* What is kept between calls. A call gets it by value and gives back the one to keep. It may start as zeros before glint_power_on. */
+/*
+ * What is kept between calls. A call gets it by value and gives back the one to keep; only loading and saving parts take a pointer to
+ * it. It may start as zeros before glint_power_on.
+ */
 typedef struct glint_state {
     uint64_t memory_length;
     glint_table table;
@@ -244,11 +247,28 @@ glint_kept glint_set_register(glint_state state, uint64_t kind, uint64_t selecto
 /* Reads a register: its value goes to the buffer's start, its length is the result. Refused: 20, 19, 6, 25, 27. */
 glint_outcome glint_read_register(glint_state state, uint64_t kind, uint64_t selector, uint8_t *buffer, size_t buffer_length);
 
-/* Loads a stream of parts: registers named take their values, all others become unset. Refused: 17, 13, 18 to 24, 6. */
-glint_kept glint_load_parts(glint_state state, const uint8_t *stream, size_t stream_length);
+/*
+ * Loads a stream of parts into a state where it stands: registers named take their values, all others become unset. Refused: 17, 13,
+ * 18 to 24, 6.
+ */
+glint_outcome glint_load_parts_into(glint_state *state, const uint8_t *stream, size_t stream_length);
 
-/* Saves the set registers as a stream at the buffer's start; its length, 41 to 429, is the result. Refused: 17, 27. */
-glint_outcome glint_save_parts(glint_state state, uint8_t *buffer, size_t buffer_length);
+/* Saves the set registers of a state as a stream at the buffer's start; its length, 41 to 429, is the result. Refused: 17, 27. */
+glint_outcome glint_save_parts_from(const glint_state *state, uint8_t *buffer, size_t buffer_length);
+
+/* The same with the state by value, as the other calls have it. */
+static inline glint_kept glint_load_parts(glint_state state, const uint8_t *stream, size_t stream_length)
+{
+    glint_kept kept;
+    kept.state = state;
+    kept.outcome = glint_load_parts_into(&kept.state, stream, stream_length);
+    return kept;
+}
+
+static inline glint_outcome glint_save_parts(glint_state state, uint8_t *buffer, size_t buffer_length)
+{
+    return glint_save_parts_from(&state, buffer, buffer_length);
+}
 
 /* Stop and start set whether the device runs, whatever it was. */
 glint_kept glint_stop(glint_state state);
@@ -517,13 +537,12 @@ static inline glint_outcome glint_bench_read_register(const glint_bench *bench, 
 
 static inline glint_outcome glint_bench_load_parts(glint_bench *bench, const void *stream, size_t length)
 {
-    glint_kept kept = glint_load_parts(bench->state, glint_bytes(stream), length);
-    return glint_bench_keep(bench, &kept);
+    return glint_load_parts_into(&bench->state, glint_bytes(stream), length);
 }
 
 static inline glint_outcome glint_bench_save_parts(const glint_bench *bench, void *buffer, size_t length)
 {
-    return glint_save_parts(bench->state, glint_bytes_mut(buffer), length);
+    return glint_save_parts_from(&bench->state, glint_bytes_mut(buffer), length);
 }
 
 static inline glint_outcome glint_bench_stop(glint_bench *bench)

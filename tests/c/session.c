@@ -510,6 +510,22 @@ static void save_and_load(void)
     CHECK_REFUSED(glint_bench_load_parts(&bench, NULL, 0), GLINT_MISSING, 0);
     CHECK_REFUSED(glint_bench_load_parts(&bench, reset_saved, 40), GLINT_TRUNCATED, 24);
 
+    /* By value: the answer and the state are those of the calls by pointer, and the state that was given stays. */
+    CHECK_DONE(glint_bench_set_register(&bench, GLINT_COMMON_FIELD, 22, "\x01\x02", 2), 0);
+    const glint_state given = bench.state;
+    glint_kept kept = glint_load_parts(given, reset_saved, sizeof reset_saved);
+    CHECK_DONE(kept.outcome, 0);
+    CHECK(memcmp(&given, &bench.state, sizeof given) == 0);
+    CHECK_DONE(glint_load_parts_into(&bench.state, reset_saved, sizeof reset_saved), 0);
+    CHECK(memcmp(&kept.state, &bench.state, sizeof given) == 0);
+    CHECK(memcmp(&kept.state.table, &given.table, sizeof given.table) == 0);
+    CHECK(given.registers.slots[4].set && !kept.state.registers.slots[4].set);
+    kept = glint_load_parts(given, twice, sizeof twice);
+    CHECK_REFUSED(kept.outcome, GLINT_TWICE, 17);
+    CHECK(memcmp(&kept.state, &given, sizeof given) == 0);
+    CHECK_DONE(glint_save_parts(given, fill(&buffer, 64), 64), 59);
+    CHECK_DONE(glint_save_parts_from(&bench.state, fill(&buffer, 64), 64), 41);
+
     CHECK_DONE(glint_bench_start(&bench), 0);
     CHECK_REFUSED(glint_bench_load_parts(&bench, twice, 17), GLINT_RUNNING, 0);
     CHECK_REFUSED(glint_bench_save_parts(&bench, fill(&buffer, 64), 64), GLINT_RUNNING, 0);

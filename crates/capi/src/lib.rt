@@ -7,12 +7,13 @@ use emulator::Location;
 use emulator::Reply;
 use emulator::State;
 use parts::Step;
+use registers::Registers;
 ghost use mathlib.Core.Path.{_≡_};
 ghost use mathlib.Core.List.{List, []};
 ghost use Rattle.address.specs.Address.{deviceAddress, memoryAddress};
 ghost use Rattle.memory.specs.Memory.{Memory, memoryOf};
 ghost use Rattle.emulator.specs.Calls.{powerOn, request, lookUp, deviceRead, deviceWrite, hostWrite, hostRead, invalidate, setRegister, readRegister, loadParts, saveParts, stop, start};
-ghost use Rattle.emulator.specs.Contract.{Meets, told, toldLocation};
+ghost use Rattle.emulator.specs.Contract.{Meets, told, toldLocation, withRegistersIn};
 ghost use Rattle.parts.specs.Step.{stepAt};
 ghost use Rattle.capi.specs.Outcome.{toldBy, toldByFound, stepBy};
 
@@ -231,20 +232,44 @@ pub extern "C" fn glint_read_register(
     numbers(emulator::read_register(state, kind, selector, buf))
 }
 
-// Loads a stream of parts.
-#[no_mangle]
-pub extern "C" fn glint_load_parts(state: State, stream: &[u8]) -> Kept
-    ensures { λ r. ⌜ ((m : Memory) → Meets loadParts (now (stream .entry)) state m (toldBy (r .outcome)) (now (stream .entry)) m (r .state)) ⌝ }
-{
-    with_state(emulator::load_parts(state, stream))
+// What loading answers, and the registers to keep.
+struct Loaded {
+    outcome: Outcome,
+    registers: Registers,
 }
 
-// Saves the registers as a stream of parts.
+fn load_parts(state: State, stream: &[u8]) -> Loaded
+    ensures { λ r. ⌜ ((m : Memory) → Meets loadParts (now (stream .entry)) state m (toldBy (r .outcome)) (now (stream .entry)) m (withRegistersIn (r .registers) state)) ⌝ }
+{
+    let loaded = emulator::load_registers(state, stream);
+    let answer = loaded.answer;
+    let registers = loaded.registers;
+    let outcome = numbers(answer);
+    Loaded { outcome, registers }
+}
+
+// Loads a stream of parts into a state where it stands: to hand it over and back would take longer than to load.
 #[no_mangle]
-pub extern "C" fn glint_save_parts(state: State, buf: &mut [u8]) -> Outcome
+pub extern "C" fn glint_load_parts_into(state: &mut State, stream: &[u8]) -> Outcome
+    ensures { λ r. ⌜ ((m : Memory) → Meets loadParts (now (stream .entry)) (now (state .entry)) m (toldBy r) (now (stream .entry)) m (now (state .exit))) ⌝ }
+{
+    let loaded = load_parts(*state, stream);
+    state.registers = loaded.registers;
+    loaded.outcome
+}
+
+fn save_parts(state: State, buf: &mut [u8]) -> Outcome
     ensures { λ r. ⌜ ((m : Memory) → Meets saveParts (now (buf .entry)) state m (toldBy r) (now (buf .exit)) m state) ⌝ }
 {
     numbers(emulator::save_parts(state, buf))
+}
+
+// Saves the registers of a state, where it stands, as a stream of parts.
+#[no_mangle]
+pub extern "C" fn glint_save_parts_from(state: &State, buf: &mut [u8]) -> Outcome
+    ensures { λ r. ⌜ ((m : Memory) → Meets saveParts (now (buf .entry)) (now (state .entry)) m (toldBy r) (now (buf .exit)) m (now (state .entry))) ⌝ }
+{
+    save_parts(*state, buf)
 }
 
 // Stops the device.

@@ -23,8 +23,8 @@ pub struct Call {
     pub name: &'static str,
     pub emulator: Program,
     pub plain: Program,
-    /// The plain program's call behind the emulator's interface: the state goes in by value and, where
-    /// the call may change it, comes back by value.
+    /// The plain program's call behind the emulator's interface, where that gives the state back: it
+    /// goes in by value and comes back by value.
     pub by_value: Option<Program>,
     /// Which one it is of those that move bytes.
     pub moves: Option<Move>,
@@ -227,31 +227,15 @@ fn on_request(
     request(&mut w.state, w.memory.get(), w.marks.get(), buffer)
 }
 
-/// The caller keeps the state that comes back.
 pub const LOAD: Call = Call {
     name: "load",
-    emulator: repeat!(|w| {
-        let kept = emulator::load_parts(&w.state, &w.buffer.get()[..w.size]);
-        w.state = kept.state;
-        !kept.outcome.refused
-    }),
+    emulator: repeat!(|w| !emulator::load_parts(&mut w.state, &w.buffer.get()[..w.size]).refused),
     plain: repeat!(|w| plain::load_parts(&mut w.state, &w.buffer.get()[..w.size]).is_ok()),
-    by_value: Some(repeat!(|w| {
-        let load: plain::by_value::Load = black_box(plain::by_value::load_parts);
-        let (next, answer) = load(w.state, &w.buffer.get()[..w.size]);
-        w.state = next;
-        answer.is_ok()
-    })),
+    by_value: None,
     moves: None,
 };
 
-pub const SAVE: Call = Call {
-    by_value: Some(repeat!(|w| {
-        let save: plain::by_value::Save = black_box(plain::by_value::save_parts);
-        save(w.state, &mut w.buffer.get_mut()[..w.size]).is_ok()
-    })),
-    ..call!("save", None, save_parts, save_parts, |w| (
-        &w.state,
-        &mut w.buffer.get_mut()[..w.size]
-    ))
-};
+pub const SAVE: Call = call!("save", None, save_parts, save_parts, |w| (
+    &w.state,
+    &mut w.buffer.get_mut()[..w.size]
+));

@@ -571,14 +571,12 @@ fn row_of(part: &Part) -> Answer<Option<usize>> {
     Ok(Some(row))
 }
 
-/// Calls as the emulator's interface has them: the state goes in by value and comes back by value.
-/// They are called by pointers that the compiler cannot see through, or it would pass references.
+/// The request as the emulator's interface has it: the state goes in by value and comes back by value.
+/// It is called by a pointer that the compiler cannot see through, or it would pass references.
 pub mod by_value {
     use super::{Answer, State};
 
     pub type Request = fn(State, &[u8], &[u8], u32, u32, &mut [u8]) -> (State, Answer<u64>);
-    pub type Load = fn(State, &[u8]) -> (State, Answer<u64>);
-    pub type Save = fn(State, &mut [u8]) -> Answer<u64>;
 
     pub fn request(
         mut state: State,
@@ -590,14 +588,5 @@ pub mod by_value {
     ) -> (State, Answer<u64>) {
         let answer = super::request(&mut state, memory, marks, target, number, buffer);
         (state, answer)
-    }
-
-    pub fn load_parts(mut state: State, stream: &[u8]) -> (State, Answer<u64>) {
-        let answer = super::load_parts(&mut state, stream);
-        (state, answer)
-    }
-
-    pub fn save_parts(state: State, buffer: &mut [u8]) -> Answer<u64> {
-        super::save_parts(&state, buffer)
     }
 }

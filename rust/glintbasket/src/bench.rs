@@ -255,8 +255,7 @@ impl<'m> Bench<'m> {
     /// Refused: `BadBench`, `Running`, `TooLong`, then for the first faulty part `Truncated`, `Header`, `UnknownPart`, `Index`,
     /// `Value`, `Twice`, `Mismatch`, and at the end `Missing`.
     pub fn load_parts(&mut self, stream: &[u8]) -> Result<()> {
-        let kept = raw::load_parts(&self.state, stream);
-        self.keep(kept).map(drop)
+        raw::load_parts(&mut self.state, stream).answer().map(drop)
     }
 
     /// Saves the set registers as a stream of parts at the buffer's start. Gives its length, 41 to [`SAVED_MAX`].

@@ -133,17 +133,16 @@ fn registers_and_streams_cross() {
 
     let reset = request(&state, &memory, &marks, 1, 111, &mut []);
     assert_eq!(reset.outcome, done(0));
-    let loaded = load_parts(&reset.state, &buffer[..59]);
-    assert_eq!(loaded.outcome, done(0));
-    assert_eq!(loaded.state.registers, state.registers);
+    let mut loaded = reset.state;
+    assert_eq!(load_parts(&mut loaded, &buffer[..59]), done(0));
+    assert_eq!(loaded, state);
 
-    let running = start(&state);
-    assert!(running.state.running);
-    assert_eq!(
-        load_parts(&running.state, &buffer[..59]).outcome,
-        refused(17, 0)
-    );
-    assert!(!stop(&running.state).state.running);
+    let mut running = start(&reset.state).state;
+    let before = running;
+    assert!(running.running);
+    assert_eq!(load_parts(&mut running, &buffer[..59]), refused(17, 0));
+    assert_eq!(running, before);
+    assert!(!stop(&running).state.running);
 }
 
 #[test]

@@ -51,7 +51,7 @@ pub fn emulate(
         Call::ReadRegister { kind, selector } => {
             told(raw::read_register(state, kind, selector, buffer))
         }
-        Call::LoadParts => kept(raw::load_parts(state, buffer)),
+        Call::LoadParts => told(raw::load_parts(&mut left, buffer)),
         Call::SaveParts => told(raw::save_parts(state, buffer)),
         Call::Stop => kept(raw::stop(state)),
         Call::Start => kept(raw::start(state)),

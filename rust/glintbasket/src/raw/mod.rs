@@ -19,12 +19,13 @@
 //! assert_eq!(outcome.place, 2);
 //! ```
 //!
-//! A call that may change the state gives back a [`Kept`]; all others leave it as it is.
+//! A call that may change the state gives back a [`Kept`], but for [`load_parts`], which changes it where it stands; all others leave
+//! it as it is.
 
 // This is the only module with `unsafe`. Why the calls are safe: no function of the library asks anything of its arguments but what
 // Rust's types say. A `&[u8]` or `&mut [u8]` gives a pointer that is not null and as many bytes as its length says, also where it has
-// none; slices lent as `&mut` overlap no other; a `bool` is 0 or 1. All other values may be any. The library keeps no pointer, and
-// writes to nothing that is lent as `&`.
+// none; what is lent as `&mut` overlaps nothing else; a `bool` is 0 or 1. All other values may be any. The library keeps no pointer,
+// and writes to nothing that is lent as `&`.
 
 mod structs;
 
@@ -118,8 +119,10 @@ extern "C" {
         buffer: *mut u8,
         buffer_length: usize,
     ) -> Outcome;
-    fn glint_load_parts(state: State, stream: *const u8, stream_length: usize) -> Kept;
-    fn glint_save_parts(state: State, buffer: *mut u8, buffer_length: usize) -> Outcome;
+    fn glint_load_parts_into(state: *mut State, stream: *const u8, stream_length: usize)
+        -> Outcome;
+    fn glint_save_parts_from(state: *const State, buffer: *mut u8, buffer_length: usize)
+        -> Outcome;
     fn glint_stop(state: State) -> Kept;
     fn glint_start(state: State) -> Kept;
     fn glint_step(stream: *const u8, stream_length: usize, place: usize) -> PartStep;
@@ -306,18 +309,18 @@ pub fn read_register(state: &State, kind: u64, selector: u64, buffer: &mut [u8])
     unsafe { glint_read_register(*state, kind, selector, buffer.as_mut_ptr(), buffer.len()) }
 }
 
-/// Loads a stream of parts: see [`Bench::load_parts`](crate::Bench::load_parts).
+/// Loads a stream of parts into a state where it stands: see [`Bench::load_parts`](crate::Bench::load_parts).
 #[inline]
-pub fn load_parts(state: &State, stream: &[u8]) -> Kept {
-    // SAFETY: the slice is valid for its length.
-    unsafe { glint_load_parts(*state, stream.as_ptr(), stream.len()) }
+pub fn load_parts(state: &mut State, stream: &[u8]) -> Outcome {
+    // SAFETY: the slice is valid for its length, and Rust keeps `state` apart.
+    unsafe { glint_load_parts_into(state, stream.as_ptr(), stream.len()) }
 }
 
 /// Saves the registers as a stream of parts: see [`Bench::save_parts`](crate::Bench::save_parts).
 #[inline]
 pub fn save_parts(state: &State, buffer: &mut [u8]) -> Outcome {
-    // SAFETY: the slice is valid for its length.
-    unsafe { glint_save_parts(*state, buffer.as_mut_ptr(), buffer.len()) }
+    // SAFETY: the slice is valid for its length, and Rust keeps it apart.
+    unsafe { glint_save_parts_from(state, buffer.as_mut_ptr(), buffer.len()) }
 }
 
 /// Stops the device: see [`Bench::stop`](crate::Bench::stop).

@@ -1,8 +1,8 @@
--- `capi::glint_save_parts` meets its contract: it is that of `emulator::save_parts`.
+-- `capi::save_parts` meets its contract: it is that of `emulator::save_parts`.
 use borrow.Author.Needs.{needs}
 use Rattle.capi.proofs.Told.{as-told}
-use Rattle.capi.proofs.glint_save_parts.Statement.{statement}
-use Rattle.capi.proofs.glint_save_parts.Tie as tie
+use Rattle.capi.proofs.save_parts.Statement.{statement}
+use Rattle.capi.proofs.save_parts.Tie as tie
 
 save-parts-requires : tie.Need-save-parts-requires
 save-parts-requires c κs = tt
@@ -16,5 +16,5 @@ same-length c = search needs
 returns : tie.Need-returns
 returns c = λ m. as-told (c .numbers .ensures) (c .before .before .before .save-parts .ensures m)
 
-pub glint-save-parts-spec : {M : Type 1} → statement M
-glint-save-parts-spec = tie.close (tie.spec save-parts-requires numbers-requires same-length returns)
+pub save-parts-spec : {M : Type 1} → statement M
+save-parts-spec = tie.close (tie.spec save-parts-requires numbers-requires same-length returns)
