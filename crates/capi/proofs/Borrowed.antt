@@ -1,5 +1,5 @@
 -- What the walks of the functions that borrow a state share. Each is lent a state, at the first of its two lifetimes, and a slice of bytes, at the second; it copies the state out and passes it on with the slice.
---     R, image         a state's type and its machine value.       borrowed, slice, lent, machines       what is passed, and the machine values
+--     R, image         a state's type and its machine value.       Arg, lent        what is passed.       slice, machines      the machine values of it
 --     state-typed      the machine value has the state's MIR type
 --     copies           a state that lies in memory, at any share: it can be read, and what holds of it is known.       back      its memory as the borrow has it
 --     hands            what a function on a state and such a slice asks, where P is what the slice owns

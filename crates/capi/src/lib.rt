@@ -1,5 +1,6 @@
 // What C and Rust link: every call with C's calling convention, thin over the proved call and with its promise. A byte slice is passed
-// as a pointer and a length; the kept state goes in by value and comes back by value. include/glintbasket.h declares these functions.
+// as a pointer and a length; the kept state goes in by value and comes back by value, but for loading and saving parts, which borrow it.
+// include/glintbasket.h declares these functions.
 use address::DeviceAddress;
 use address::MemoryAddress;
 use answer::Answer;
