@@ -14,9 +14,9 @@ ghost use mathlib.Core.List.{List, []};
 ghost use Rattle.address.specs.Address.{deviceAddress, memoryAddress};
 ghost use Rattle.memory.specs.Memory.{Memory, memoryOf};
 ghost use Rattle.emulator.specs.Calls.{powerOn, request, lookUp, deviceRead, deviceWrite, hostWrite, hostRead, invalidate, setRegister, readRegister, loadParts, saveParts, stop, start};
-ghost use Rattle.emulator.specs.Contract.{Meets, told, toldLocation, withRegistersIn};
+ghost use Rattle.emulator.specs.Contract.{Meets, told, toldLocation};
 ghost use Rattle.parts.specs.Step.{stepAt};
-ghost use Rattle.capi.specs.Outcome.{toldBy, toldByFound, stepBy};
+ghost use Rattle.capi.specs.Outcome.{toldBy, toldByFound, keptBy, stepBy};
 
 // An answer: a result, or the number and the place of a refusal.
 #[repr(C)]
@@ -233,14 +233,14 @@ pub extern "C" fn glint_read_register(
     numbers(emulator::read_register(state, kind, selector, buf))
 }
 
-// What loading answers, and the registers to keep.
+// What loading answers, and the registers to keep where it is success.
 struct Loaded {
     outcome: Outcome,
     registers: Registers,
 }
 
 fn load_parts(state: State, stream: &[u8]) -> Loaded
-    ensures { λ r. ⌜ ((m : Memory) → Meets loadParts (now (stream .entry)) state m (toldBy (r .outcome)) (now (stream .entry)) m (withRegistersIn (r .registers) state)) ⌝ }
+    ensures { λ r. ⌜ ((m : Memory) → Meets loadParts (now (stream .entry)) state m (toldBy (r .outcome)) (now (stream .entry)) m (keptBy r state)) ⌝ }
 {
     let loaded = emulator::load_registers(state, stream);
     let answer = loaded.answer;
@@ -255,7 +255,9 @@ pub extern "C" fn glint_load_parts_into(state: &mut State, stream: &[u8]) -> Out
     ensures { λ r. ⌜ ((m : Memory) → Meets loadParts (now (stream .entry)) (now (state .entry)) m (toldBy r) (now (stream .entry)) m (now (state .exit))) ⌝ }
 {
     let loaded = load_parts(*state, stream);
-    state.registers = loaded.registers;
+    if !loaded.outcome.refused {
+        state.registers = loaded.registers;
+    }
     loaded.outcome
 }
 

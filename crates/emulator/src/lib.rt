@@ -18,7 +18,7 @@ ghost use Rattle.memory.specs.Memory.{Memory, memoryOf};
 ghost use Rattle.emulator.specs.Machine.{machineOf, emulatorOf, both, sound as soundMachine, lendable as canLend, usable as canUse};
 ghost use Rattle.emulator.specs.Calls.{powerOn, lookUp, deviceRead, deviceWrite, hostWrite, hostRead, setRegister, readRegister, loadParts, saveParts};
 ghost use Rattle.emulator.specs.Calls as calls;
-ghost use Rattle.emulator.specs.Contract.{Meets, told, toldLocation, runCall, withRegistersIn, withRunningIn};
+ghost use Rattle.emulator.specs.Contract.{Meets, told, toldLocation, runCall, keeping, withRegistersIn, withRunningIn};
 
 // The state that a caller keeps between calls: the length of memory noted at power on, the mapping table, the device's registers and
 // whether the device runs. Any values may stand in it: each call says whether they make a sound state.
@@ -36,7 +36,7 @@ pub struct Reply {
     pub state: State,
 }
 
-// An answer, and the registers to keep.
+// An answer, and the registers to keep where it is success.
 pub struct Loaded {
     pub answer: Answer,
     pub registers: Registers,
@@ -297,20 +297,21 @@ pub fn read_register(state: State, kind: u64, selector: u64, buf: &mut [u8]) -> 
     }
 }
 
-// What loading a stream of parts answers, and the registers that it leaves: registers named take their values, all others become unset.
+// What loading a stream of parts answers, and the registers that were loaded: those named take their values, all others become unset.
 // Soundness is asked piece by piece, here and in saving: a call with the whole state would copy it.
 pub fn load_registers(state: State, stream: &[u8]) -> Loaded
-    ensures { λ r. ⌜ ((m : Memory) → Meets loadParts (now (stream .entry)) state m (told (r .answer)) (now (stream .entry)) m (withRegistersIn (r .registers) state)) ⌝ }
+    ensures { λ r. ⌜ ((m : Memory) → Meets loadParts (now (stream .entry)) state m (told (r .answer)) (now (stream .entry)) m (keeping (r .answer) (r .registers) state)) ⌝ }
 {
     let table = state.table;
     let registers = state.registers;
     if !sound_mappings(state.memory_length, table) || !registers::sound(registers) {
+        let none = registers::blank();
         return Loaded {
             answer: Answer::Refused(answer::BAD_BENCH, 0),
-            registers,
+            registers: none,
         };
     }
-    let loaded = parts::load(registers, state.running, stream);
+    let loaded = parts::load(state.running, stream);
     let next = loaded.registers;
     let verdict = loaded.verdict;
     match verdict {
@@ -331,10 +332,18 @@ pub fn load_parts(state: State, stream: &[u8]) -> Reply
 {
     let loaded = load_registers(state, stream);
     let answer = loaded.answer;
-    let registers = loaded.registers;
-    Reply {
-        answer,
-        state: with_registers(state, registers),
+    match answer {
+        Answer::Refused(code, place) => Reply {
+            answer: Answer::Refused(code, place),
+            state,
+        },
+        Answer::Done(result) => {
+            let registers = loaded.registers;
+            Reply {
+                answer: Answer::Done(result),
+                state: with_registers(state, registers),
+            }
+        }
     }
 }
 

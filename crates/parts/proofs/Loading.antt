@@ -16,10 +16,9 @@ use Rattle.answer.specs.Answer.{Answer, done, refused, settle, _onward_}
 use Rattle.answer.specs.declared.Verdict.the-variants.{Pass, Fail}
 use Rattle.answer.proofs.Tests.{pick-true, is-false}
 use Rattle.answer.proofs.Checks.{then-pass, unless-pass}
-use Rattle.registers.specs.Rows.{CommonField, QueueConfig, rowCount, rowOf, sizeOf, listed, selectorWidth}
-use Rattle.registers.specs.File.{File, valueIn, fileFrom, registerOf, slotsOf}
+use Rattle.registers.specs.Rows.{CommonField, QueueConfig, rowCount, rowOf, sizeOf, listed, selectorWidth, statusRow}
+use Rattle.registers.specs.File.{current, File, valueIn, fileFrom, registerOf, slotsOf}
 use Rattle.registers.specs.declared.Register.{Register}
-use Rattle.registers.specs.declared.Registers.{Registers}
 use Rattle.registers.proofs.Rows.{selected, row-listed}
 use Rattle.registers.proofs.Values.{value-size}
 use Rattle.registers.proofs.File.{absent, set-at, file-set}
@@ -99,19 +98,24 @@ module _ (x : Option (List ℕ)) (slots : List Register) (kind selector : ℕ) w
       sym (named-kept (omega arith) ∙ ap (λ (r : Register). r .set) (List·getD-eq-default slots absent {n = rowOf kind selector - 1} (omega arith)))
 
 -- what the code gives for answers that agree
-pub agree : (registers : Registers) (x y : Answer File) → x ≡ y → loadedOf y registers ≡ loadedOf x registers
-agree registers x y e = ap (λ (a : Answer File). loadedOf a registers) (sym e)
+pub agree : (x y : Answer File) → x ≡ y → loadedOf y ≡ loadedOf x
+agree x y e = ap loadedOf (sym e)
 
 -- ---- the end of the stream
 
 module _ (x : Option (List ℕ)) (slots : List Register) (p : ℕ) where
-  pub finish-done : getD slots 5 absent .set ≡ true → finish (seenIn x slots) p ≡ done (fileFrom 1 slots)
-  unfolding finish settle _unless_ _at_
-  finish-done h = rw (set-at 1 slots 5 ∙ h)
+  pub finish-done : isSome (current (fileFrom 1 slots) statusRow) ≡ true → finish (seenIn x slots) p ≡ done (fileFrom 1 slots)
+  unfolding finish settle _unless_ _at_ current
+  finish-done h = rw h
 
-  pub finish-missing : getD slots 5 absent .set ≡ false → finish (seenIn x slots) p ≡ refused Missing p
-  unfolding finish settle _unless_ _at_
-  finish-missing h = rw (set-at 1 slots 5 ∙ h)
+  pub finish-missing : isSome (current (fileFrom 1 slots) statusRow) ≡ false → finish (seenIn x slots) p ≡ refused Missing p
+  unfolding finish settle _unless_ _at_ current
+  finish-missing h = rw h
+
+-- the code asks the slot of status
+pub status-named : (slots : List Register) → getD slots 5 absent .set ≡ isSome (current (fileFrom 1 slots) statusRow)
+unfolding current
+status-named slots = sym (set-at 1 slots 5)
 
 -- ---- the loop over the parts
 

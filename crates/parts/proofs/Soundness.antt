@@ -11,11 +11,10 @@ use Rattle.answer.specs.Answer.{Answer, done, refused, settle, _onward_, verdic
 use Rattle.answer.specs.declared.Verdict.{Verdict}
 use Rattle.answer.specs.declared.Verdict.the-variants.{Pass, Fail}
 use Rattle.answer.proofs.Tests.{and-true, and-made, pick-true}
-use Rattle.answer.proofs.Checks.{then-pass, unless-pass, when-pass, at-pass}
+use Rattle.answer.proofs.Checks.{never, then-pass, unless-pass, when-pass, at-pass}
 use Rattle.registers.specs.Rows.{rowCount, rowOf, listed}
 use Rattle.registers.specs.Values.{valueChecks}
-use Rattle.registers.specs.File.{File, keptCount, current, soundFrom, soundFile, fileOf, soundValue}
-use Rattle.registers.specs.declared.Registers.{Registers}
+use Rattle.registers.specs.File.{File, keptCount, current, soundFrom, soundFile, fileOf, slotsOf, soundValue}
 use Rattle.registers.proofs.File.{sound-cons, sound-sized, file-written}
 use Rattle.registers.proofs.Soundness.{sound-set}
 use Rattle.parts.specs.Step.{stepAt}
@@ -110,16 +109,16 @@ load-sound running s file e =
 
 -- ---- what `load` gives
 
-pub loaded-verdict : (a : Answer File) (registers : Registers) → loadedOf a registers .verdict ≡ verdict a
+pub loaded-verdict : (a : Answer File) → loadedOf a .verdict ≡ verdict a
 unfolding loadedOf verdict
-loaded-verdict (done file) registers = refl
-loaded-verdict (refused code place) registers = refl
+loaded-verdict (done file) = refl
+loaded-verdict (refused code place) = refl
 
--- the registers are the file that the stream makes, or, where it is refused, the one they were
-pub loaded-file : (running : Bool) (s : List ℕ) (registers : Registers) → fileOf (loadedOf (load running s) registers .registers) ≡ resultOr (fileOf registers) (load running s)
-unfolding fileOf soundFile loadedOf resultOr
-loaded-file running s registers = go (load running s) refl
+-- the registers that code writes for an accepted stream are the file that it makes
+pub loaded-file : (running : Bool) (s : List ℕ) (old : File) → verdict (load running s) ≡ Pass → fileOf (record { slots = slotsOf (resultOr old (load running s)) }) ≡ resultOr old (load running s)
+unfolding fileOf soundFile resultOr verdict
+loaded-file running s old = go (load running s) refl
   where
-    go : (x : Answer File) → load running s ≡ x → fileOf (loadedOf x registers .registers) ≡ resultOr (fileOf registers) x
-    go (done file) e = file-written 1 file (sound-sized 1 file (and-true _ _ (load-sound running s file e .1) .1))
-    go (refused code place) e = refl
+    go : (x : Answer File) → load running s ≡ x → verdict x ≡ Pass → fileOf (record { slots = slotsOf (resultOr old x) }) ≡ resultOr old x
+    go (done file) e ok = file-written 1 file (sound-sized 1 file (and-true _ _ (load-sound running s file e .1) .1))
+    go (refused code place) e ok = never code place ok

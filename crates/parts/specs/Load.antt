@@ -5,7 +5,7 @@ use mathlib.Core.List.{List, _∷_}
 use mathlib.Core.Option.{Option, none, some}
 use lib.ListN.{length, getD, set, drop, replicate}
 use lib.Dec.{ltb, leb, eqb}
-use Rattle.answer.specs.Tests.{_and_, pick, isSome}
+use Rattle.answer.specs.Tests.{pick, isSome}
 use Rattle.answer.specs.Codes.{Index, Running, Truncated, Header, UnknownPart, Missing}
 use Rattle.answer.specs.Checks.{_then_, _when_, _unless_, _at_}
 use Rattle.answer.specs.Limits.{lengthCheck}
@@ -14,9 +14,8 @@ use Rattle.answer.specs.declared.Verdict.{Verdict}
 use Rattle.answer.specs.declared.Verdict.the-variants.{Pass, Fail}
 use Rattle.registers.specs.Rows.{OfferedFeatures, rowCount, statusRow, rowOf, selects, listed, selectorWidth}
 use Rattle.registers.specs.Values.{valueChecks}
-use Rattle.registers.specs.File.{File, fileFrom, slotsOf}
+use Rattle.registers.specs.File.{File, blank, fileFrom, slotsOf}
 use Rattle.registers.specs.declared.Register.{Register}
-use Rattle.registers.specs.declared.Registers.{Registers}
 use Rattle.parts.specs.Step.{stepAt, valueTo}
 use Rattle.parts.specs.declared.Loaded.{Loaded}
 use Rattle.parts.specs.declared.Step.{Step}
@@ -84,10 +83,10 @@ load running s =
 abbrev pub seenIn : Option (List ℕ) → List Register → Seen
 seenIn x slots = x ∷ fileFrom 1 slots
 
--- what the code gives for an answer: its verdict, and the registers, those given where it is refused, else those of the file
-unfoldable pub loadedOf : Answer File → Registers → Loaded
-loadedOf (done file) registers = record { verdict = Pass; registers = record { slots = slotsOf file } }
-loadedOf (refused code place) registers = record { verdict = Fail code place; registers = registers }
+-- what the code gives for an answer: its verdict, and the registers of the file; where it is refused none is set
+unfoldable pub loadedOf : Answer File → Loaded
+loadedOf (done file) = record { verdict = Pass; registers = record { slots = slotsOf file } }
+loadedOf (refused code place) = record { verdict = Fail code place; registers = record { slots = slotsOf blank } }
 
 -- what the parts of a stream come to, from its start
 abbrev pub fromStart : List ℕ → Answer File

@@ -8,8 +8,10 @@ ghost use mathlib.Core.Option.{Option};
 ghost use Prim.Native.Nat.{ℕ, _+_, _^_, _≤_, _<_};
 ghost use lib.ListN.{length, take};
 ghost use lib.Seq.{sets};
-ghost use Rattle.registers.specs.Rows.{rowCount, rowOf, sizeOf, selectorWidth};
-ghost use Rattle.registers.specs.File.{fileOf, fileFrom, slotsOf};
+ghost use Rattle.answer.specs.Answer.{refused as refusal};
+ghost use Rattle.answer.specs.Tests.{isSome};
+ghost use Rattle.registers.specs.Rows.{rowCount, statusRow, rowOf, sizeOf, selectorWidth};
+ghost use Rattle.registers.specs.File.{current, fileOf, fileFrom, slotsOf};
 ghost use Rattle.parts.specs.Step.{headerSize, partStep, stepAt, valueTo, valueAt};
 ghost use Rattle.parts.specs.Load.{flagsOf, listedChecks, partChecks, finish as finished, load as loading, seenIn, loadedOf, fromStart};
 ghost use Rattle.parts.specs.Save.{encoded, saved, saveChecks};
@@ -98,7 +100,7 @@ pub fn value_at(s: &[u8], at: usize) -> &[u8]
 
 // ---- loading
 
-// What loading comes to, and the registers afterwards.
+// What loading comes to, and the registers that were loaded; none of them is set where it is refused.
 pub struct Loaded {
     pub verdict: Verdict,
     pub registers: Registers,
@@ -163,28 +165,35 @@ fn check_part(row: usize, twice: bool, kind: u64, flags: u8, selector: u64, v: &
     }
 }
 
-// The end of the stream, at place `at`: a register that no part named is not set any more.
-fn finish(registers: Registers, slots: [Register; registers::SLOTS], at: usize) -> Loaded
-    requires { ⌜ slots ≡ slotsOf (fileFrom 1 slots) ⌝ }
-    ensures { λ r. ⌜ ((x : Option (List ℕ)) → r ≡ loadedOf (finished (seenIn x slots) at) registers) ⌝ }
+// A refused stream, of which no register is taken.
+fn refused(code: u32, place: u64) -> Loaded
+    ensures { λ r. ⌜ r ≡ loadedOf (refusal code place) ⌝ }
 {
-    let status = slots[registers::STATUS_ROW - 1];
-    if status.set {
+    let registers = registers::blank();
+    Loaded {
+        verdict: Verdict::Fail(code, place),
+        registers,
+    }
+}
+
+// The end of the stream, at place `at`, where `named` is whether a part named status. Registers that no part named are not set.
+fn finish(slots: [Register; registers::SLOTS], named: bool, at: usize) -> Loaded
+    requires { ⌜ (slots ≡ slotsOf (fileFrom 1 slots)) × (named ≡ isSome (current (fileFrom 1 slots) statusRow)) ⌝ }
+    ensures { λ r. ⌜ ((x : Option (List ℕ)) → r ≡ loadedOf (finished (seenIn x slots) at)) ⌝ }
+{
+    if named {
         return Loaded {
             verdict: Verdict::Pass,
             registers: Registers { slots },
         };
     }
-    Loaded {
-        verdict: Verdict::Fail(answer::MISSING, at as u64),
-        registers,
-    }
+    refused(answer::MISSING, at as u64)
 }
 
 // Each part in order: `slots` has the registers that parts named, and `offered` is whether one named offered features, which are not kept.
-// Nothing of `registers` changes before the last check has passed. The slots are read and set in place, since a call would copy them all.
-fn load_parts(registers: Registers, s: &[u8]) -> Loaded
-    ensures { λ r. ⌜ r ≡ loadedOf (fromStart (now (s .entry))) registers ⌝ }
+// The slots are read and set in place, since a call would copy them all.
+fn load_parts(s: &[u8]) -> Loaded
+    ensures { λ r. ⌜ r ≡ loadedOf (fromStart (now (s .entry))) ⌝ }
 {
     let none = registers::unset();
     let mut slots = [none; registers::SLOTS];
@@ -194,13 +203,11 @@ fn load_parts(registers: Registers, s: &[u8]) -> Loaded
         let step = step_at(s, at);
         match step {
             Step::End => {
-                return finish(registers, slots, at);
+                let status = slots[registers::STATUS_ROW - 1];
+                return finish(slots, status.set, at);
             }
             Step::Refused(code, place) => {
-                return Loaded {
-                    verdict: Verdict::Fail(code, place),
-                    registers,
-                };
+                return refused(code, place);
             }
             Step::Part {
                 kind,
@@ -220,10 +227,7 @@ fn load_parts(registers: Registers, s: &[u8]) -> Loaded
                 let verdict = check_part(row, twice, kind as u64, flags, selector, v);
                 match verdict {
                     Verdict::Fail(code, _) => {
-                        return Loaded {
-                            verdict: Verdict::Fail(code, at as u64),
-                            registers,
-                        };
+                        return refused(code, at as u64);
                     }
                     Verdict::Pass => {
                         if row == 0 {
@@ -240,22 +244,16 @@ fn load_parts(registers: Registers, s: &[u8]) -> Loaded
     }
 }
 
-pub fn load(registers: Registers, running: bool, s: &[u8]) -> Loaded
-    ensures { λ r. ⌜ r ≡ loadedOf (loading running (now (s .entry))) registers ⌝ }
+pub fn load(running: bool, s: &[u8]) -> Loaded
+    ensures { λ r. ⌜ r ≡ loadedOf (loading running (now (s .entry))) ⌝ }
 {
     if running {
-        return Loaded {
-            verdict: Verdict::Fail(answer::RUNNING, 0),
-            registers,
-        };
+        return refused(answer::RUNNING, 0);
     }
     if answer::TRANSFER_LIMIT < s.len() {
-        return Loaded {
-            verdict: Verdict::Fail(answer::TOO_LONG, 0),
-            registers,
-        };
+        return refused(answer::TOO_LONG, 0);
     }
-    load_parts(registers, s)
+    load_parts(s)
 }
 
 // ---- saving

@@ -12,7 +12,7 @@ ghost use Rattle.answer.specs.declared.Verdict.the-variants.{Pass};
 ghost use Rattle.wire.specs.Field.{bytesOf};
 ghost use Rattle.registers.specs.Rows.{CommonField, rowCount, kindOf, selectorOf, sizeOf, rowOf, listed, selectorWidth};
 ghost use Rattle.registers.specs.Values.{offered as offeredBits, onlyOffered, powerOfTwo, validQueue, contentChecks, valueChecks};
-ghost use Rattle.registers.specs.File.{current as currentIn, reset as resetFile, soundValue, soundFile, valueIn, fileOf, registerOf, slotsOf};
+ghost use Rattle.registers.specs.File.{current as currentIn, blank as blankFile, reset as resetFile, soundValue, soundFile, valueIn, fileOf, registerOf, slotsOf};
 ghost use Rattle.registers.specs.Access.{selectorChecks, setChecks, readChecks, readValue};
 
 // One register: whether it is set, and its value at the start of `bytes`. Bytes past the value's size, and all bytes of a register
@@ -353,6 +353,15 @@ pub fn sound(registers: Registers) -> bool
         i += 1;
     }
     true
+}
+
+// No register set.
+pub fn blank() -> Registers
+    ensures { λ r. ⌜ r .slots ≡ slotsOf blankFile ⌝ }
+{
+    let none = unset();
+    let slots = [none; SLOTS];
+    Registers { slots }
 }
 
 // Status 0, and no other register set.

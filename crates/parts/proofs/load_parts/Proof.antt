@@ -8,19 +8,19 @@ use Rattle.registers.specs.Rows.{rowOf}
 use Rattle.registers.proofs.Rows.{size-most}
 use Rattle.registers.proofs.File.{absent}
 use Rattle.parts.specs.Step.{stepAt, valueTo}
-use Rattle.parts.specs.Load.{partChecks, named, seenIn, loadedOf}
+use Rattle.parts.specs.Load.{partChecks, named, seenIn}
 use Rattle.parts.specs.declared.Step.the-variants.{Part}
 use Rattle.parts.proofs.Steps.{step-says}
-use Rattle.parts.proofs.Loading.{Loop, agree, loop-start, loop-end, loop-refused, loop-fault, loop-offered, loop-kept, loop-skipped, part-size, named-offered, named-kept, named-none}
+use Rattle.parts.proofs.Loading.{Loop, agree, loop-start, status-named, loop-end, loop-refused, loop-fault, loop-offered, loop-kept, loop-skipped, part-size, named-offered, named-kept, named-none}
 use borrow.Author.Needs.{needs}
 use Rattle.parts.proofs.load_parts.Statement.{statement}
 use Rattle.parts.proofs.load_parts.Tie as tie
 
 abbrev Inv-loop : tie.InvT-loop
-Inv-loop registers s slots₀ offered₀ at₀ slots offered at = Loop s at slots offered
+Inv-loop s slots₀ offered₀ at₀ slots offered at = Loop s at slots offered
 
 abbrev μ-loop : tie.MeasureT-loop
-μ-loop registers s slots₀ offered₀ at₀ slots offered at = length s - at
+μ-loop s slots₀ offered₀ at₀ slots offered at = length s - at
 
 unset-requires : tie.Need-unset-requires Inv-loop μ-loop
 unset-requires c κs = search needs
@@ -34,22 +34,35 @@ step-at-requires c κs = search needs
 enum-told : tie.Need-enum-told Inv-loop μ-loop
 enum-told c = search needs
 
+sub-status : tie.Need-sub-status Inv-loop μ-loop
+sub-status c = search needs
+
+mul-status : tie.Need-mul-status Inv-loop μ-loop
+mul-status c = search needs
+
+array-copy-out-status : tie.Need-array-copy-out-status Inv-loop μ-loop
+array-copy-out-status c = search needs
+
 finish-requires : tie.Need-finish-requires Inv-loop μ-loop
-finish-requires c κs = c .before .before .before .loop .inv .canonical
+finish-requires c κs =
+    let l = c .before .before .before .before in
+    (l .loop .inv .canonical, status-named (l .loop .slots))
 
 returns : tie.Need-returns Inv-loop μ-loop
 returns c =
-    let l = c .before .before .before .before in
-    c .finish .ensures (l .loop .inv .features) ∙ agree _ _ _ (loop-end _ _ _ _ (l .loop .inv) (sym (c .before .enum-told .given .1) ∙ c .before .before .before .step-at .ensures))
+    let l = c .before .before .before .before .before in
+    c .finish .ensures (l .loop .inv .features) ∙ agree _ _ (loop-end _ _ _ _ (l .loop .inv) (sym (c .before .before .enum-told .given .1) ∙ c .before .before .before .before .step-at .ensures))
 
 enum-known-step : tie.Need-enum-known-step Inv-loop μ-loop
 enum-known-step c = search needs
 
+refused-requires : tie.Need-refused-requires Inv-loop μ-loop
+refused-requires c κs = search needs
+
 returns-2 : tie.Need-returns-2 Inv-loop μ-loop
-unfolding loadedOf
 returns-2 c =
-    let l = c .before .before .before .before in
-    agree _ _ _ (loop-refused _ _ _ _ (l .loop .inv) _ _ (sym (c .before .step .given .1) ∙ c .before .before .before .step-at .ensures))
+    let l = c .before .before .before .before .before in
+    c .refused .ensures ∙ agree _ _ (loop-refused _ _ _ _ (l .loop .inv) _ _ (sym (c .before .before .step .given .1) ∙ c .before .before .before .before .step-at .ensures))
 
 enum-known-step-2 : tie.Need-enum-known-step-2 Inv-loop μ-loop
 enum-known-step-2 c = search needs
@@ -125,14 +138,16 @@ checked c =
 enum-known-verdict : tie.Need-enum-known-verdict Inv-loop μ-loop
 enum-known-verdict c = search needs
 
+refused-requires-2 : tie.Need-refused-requires-2 Inv-loop μ-loop
+refused-requires-2 c κs = search needs
+
 returns-3 : tie.Need-returns-3 Inv-loop μ-loop
-unfolding loadedOf
 returns-3 c =
-    let m = c .before .before .before in
+    let m = c .before .before .before .before in
     let j = m .before in
     let p = j .before .before .before .before in
     let l = p .before .before .before in
-    agree _ _ _ (loop-fault _ _ _ _ (l .loop .inv) _ _ _ _ (part p) _ (known j) _ _ (sym (c .before .verdict .given .1) ∙ checked m))
+    c .refused2 .ensures ∙ agree _ _ (loop-fault _ _ _ _ (l .loop .inv) _ _ _ _ (part p) _ (known j) _ _ (sym (c .before .before .verdict .given .1) ∙ checked m))
 
 enum-told-2 : tie.Need-enum-told-2 Inv-loop μ-loop
 enum-told-2 c = search needs
@@ -214,9 +229,13 @@ load-parts-spec =
     loop-holds
     step-at-requires
     enum-told
+    sub-status
+    mul-status
+    array-copy-out-status
     finish-requires
     returns
     enum-known-step
+    refused-requires
     returns-2
     enum-known-step-2
     value-to-requires
@@ -228,6 +247,7 @@ load-parts-spec =
     cast-check-part
     check-part-requires
     enum-known-verdict
+    refused-requires-2
     returns-3
     enum-told-2
     holding-requires
