@@ -1,10 +1,13 @@
-.PHONY: run test bench fuzz
+.PHONY: run library test bench fuzz
 
 SECONDS = 60
 
 library = target/staticlib/libcapi.a
 player = rust/player/target/release/glintbasket
 build = cargo build --quiet --release --offline --manifest-path
+
+# What the library is made of; definitions and proofs too, since it is built only of what is proved.
+sources = crates.txt $(wildcard crates/*/src/* crates/*/specs/* crates/*/proofs/*.antt crates/*/proofs/*/*.antt)
 
 # Builds the proved library, the player and the second program, and plays a first session.
 run: $(library)
@@ -36,6 +39,8 @@ fuzz: $(library)
 	$(build) rust/differential/Cargo.toml
 	rust/differential/target/release/glint-differential --seconds $(SECONDS)
 
-# Proves what it links where that has changed; remove the file to have it made anew.
-$(library):
+# The proved library, made anew where a source has changed. It proves again only the crates that a change touches, and capi.
+library: $(library)
+
+$(library): $(sources)
 	rt staticlib capi

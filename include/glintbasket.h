@@ -14,10 +14,13 @@
  *     glint_outcome o = glint_bench_device_read(&bench, glint_device(0x10000), buffer, 3);
  *     // o.refused, o.code is GLINT_UNWRITTEN and o.place is 2: nobody wrote the third byte.
  *
- * What the library takes for granted, because no call can test it:
- *   - a pointer is not null, also where its length is 0 (the second half sees to that), and its bytes may be read or written;
- *   - memory, marks, the buffer of one call and a state that a pointer leads to do not overlap;
- *   - a bool in a state is 0 or 1. All else of a state may hold any values: a call refuses an unsound one with GLINT_BAD_BENCH.
+ * What remains for the caller, because no call can test it:
+ *   1. A pointer leads to as many bytes as its length says, which may be read or, where the parameter is not const, written. The
+ *      functions of the first half take no null pointer, also where the length is 0; those of the second half take one for no bytes,
+ *      and refuse one with a length above 0 (GLINT_NULL_POINTER).
+ *   2. Memory, marks, the buffer of one call and a struct that a pointer leads to do not overlap.
+ *   3. A bench, a state and what is lent with it are used by one thread at a time.
+ * All else may be any: every byte of a state, every number, length and order of calls has an answer.
  */
 #ifndef GLINTBASKET_H
 #define GLINTBASKET_H
@@ -49,6 +52,7 @@ extern "C" {
 
 /* The numbers of the refusals. A comment with "place" says what the place of such a refusal is; else it is 0. */
 enum glint_refusal {
+    GLINT_NULL_POINTER = 0,    /* of this header alone: a null pointer with a length above 0; the library was not called */
     GLINT_BAD_BENCH = 1,       /* memory and marks do not fit each other or the state, or the state is not sound */
     GLINT_NO_SUCH_REQUEST = 2, /* the target has no request of this number */
     GLINT_SHORT = 3,           /* buffer shorter than the request's size */
@@ -73,21 +77,21 @@ enum glint_refusal {
     GLINT_VALUE = 22,          /* place: start of the part */
     GLINT_MISMATCH = 23,       /* place: start of the part */
     GLINT_MISSING = 24,        /* no status part; place: length of the stream */
-    GLINT_UNSET = 25,          /* register never set */
+    GLINT_UNSET = 25,          /* the register is not set */
     GLINT_READ_ONLY = 26,      /* setting offered features */
     GLINT_NO_SPACE = 27        /* output buffer too small */
 };
 
-/* The name of a refusal, as "Unwritten" for GLINT_UNWRITTEN; "?" for a number that is none. */
+/* The name of a refusal, as "Unwritten" for GLINT_UNWRITTEN; "?" for a number that is none. Ask it only of what was refused. */
 static inline const char *glint_refusal_name(uint32_t code)
 {
     static const char *const names[] = {
-        "?", "BadBench", "NoSuchRequest", "Short", "ArgSize", "Flags", "Index",
+        "NullPointer", "BadBench", "NoSuchRequest", "Short", "ArgSize", "Flags", "Index",
         "Unaligned", "Empty", "Range", "Overlap", "NoRoom", "Cuts", "TooLong",
         "Unmapped", "NoRight", "Unwritten", "Running", "Truncated", "Header", "UnknownPart",
         "Twice", "Value", "Mismatch", "Missing", "Unset", "ReadOnly", "NoSpace",
     };
-    return code <= GLINT_NO_SPACE ? names[code] : names[0];
+    return code <= GLINT_NO_SPACE ? names[code] : "?";
 }
 
 /* ---- addresses */
@@ -136,9 +140,9 @@ typedef struct glint_table {
     uint64_t count;
 } glint_table;
 
-/* A register: whether it is set, and from the first byte on its value. Read it by glint_read_register. */
+/* A register: it is set where `set` is 1, and no other value says so; from the first byte on its value. Read it by glint_read_register. */
 typedef struct glint_register {
-    bool set;
+    uint8_t set;
     uint8_t bytes[32];
 } glint_register;
 
@@ -149,18 +153,21 @@ typedef struct glint_registers {
 
 /*
  * What is kept between calls. A call gets it by value and gives back the one to keep; only loading and saving parts take a pointer to
- * it. It may start as zeros before glint_power_on.
+ * it. It may start as zeros before glint_power_on. Any values may stand in it: a call refuses an unsound one with GLINT_BAD_BENCH.
  */
 typedef struct glint_state {
     uint64_t memory_length;
     glint_table table;
     glint_registers registers;
-    bool running;
+    uint8_t running; /* 1: the device runs; every other value: it does not */
 } glint_state;
 
 /* ---- answers */
 
-/* Refused: `code` (enum glint_refusal) and `place`; nothing lent or kept has changed. Else `result`, 0 where none is stated. */
+/*
+ * Refused: `code` (enum glint_refusal) and `place`; nothing lent or kept has changed. Else `result`, 0 where none is stated. What an
+ * answer has no use for is 0, here and in the structs below.
+ */
 typedef struct glint_outcome {
     bool refused;
     uint32_t code;
@@ -181,7 +188,7 @@ typedef struct glint_found {
     uint32_t rights;
 } glint_found;
 
-/* One step over a stream: refused; or the end; or a part, whose value reaches from 16 bytes behind the step's place to `next`. */
+/* One step over a stream: refused; or the end; or a part. */
 typedef struct glint_part_step {
     bool refused;
     bool end;
@@ -190,7 +197,9 @@ typedef struct glint_part_step {
     uint16_t kind;
     uint8_t flags;
     uint64_t selector;
-    uint64_t next; /* the place of the next step; after a refusal or the end the place of this one */
+    uint64_t value_start;  /* where the part's value begins in the stream */
+    uint64_t value_length; /* how many bytes it has; they lie in the stream */
+    uint64_t next;         /* the place of the next step; after a refusal or the end the place of this one */
 } glint_part_step;
 
 /* The layout is part of the interface: a library for another machine must not link unnoticed. */
@@ -207,7 +216,7 @@ GLINT_ASSERT(offsetof(glint_state, running) == 2526);
 GLINT_ASSERT(sizeof(glint_outcome) == 24);
 GLINT_ASSERT(sizeof(glint_kept) == 2552);
 GLINT_ASSERT(sizeof(glint_found) == 40);
-GLINT_ASSERT(sizeof(glint_part_step) == 40);
+GLINT_ASSERT(sizeof(glint_part_step) == 56);
 
 /* ---- the library's functions */
 
@@ -373,6 +382,18 @@ typedef struct glint_bench {
     glint_state state;
 } glint_bench;
 
+/* Whether a pointer is null though it stands for bytes. Such a call is refused here, with GLINT_NULL_POINTER, and does not run. */
+static inline bool glint_is_null(const void *bytes, size_t length)
+{
+    return !bytes && length > 0;
+}
+
+static inline glint_outcome glint_null_refusal(void)
+{
+    glint_outcome outcome = {true, GLINT_NULL_POINTER, 0, 0};
+    return outcome;
+}
+
 /* Pointers for a slice: C allows null for no bytes, the library does not. */
 static inline const uint8_t *glint_bytes(const void *bytes)
 {
@@ -386,6 +407,12 @@ static inline uint8_t *glint_bytes_mut(void *bytes)
     return bytes ? (uint8_t *)bytes : &none;
 }
 
+/* Whether memory or marks of a bench are null though they stand for bytes. */
+static inline bool glint_bench_is_null(const glint_bench *bench)
+{
+    return glint_is_null(bench->memory, bench->memory_length) || glint_is_null(bench->marks, bench->marks_length);
+}
+
 /* Keeps the state that a call gave back, and hands on its answer. */
 static inline glint_outcome glint_bench_keep(glint_bench *bench, const glint_kept *kept)
 {
@@ -396,12 +423,14 @@ static inline glint_outcome glint_bench_keep(glint_bench *bench, const glint_kep
 /* Fresh start on the bench's memory and marks. */
 static inline glint_outcome glint_bench_power_on(glint_bench *bench)
 {
+    if (glint_bench_is_null(bench))
+        return glint_null_refusal();
     glint_kept kept = glint_power_on(bench->state, glint_bytes(bench->memory), bench->memory_length, glint_bytes_mut(bench->marks),
                                      bench->marks_length);
     return glint_bench_keep(bench, &kept);
 }
 
-/* Takes `length` bytes of memory and as many marks, and makes a fresh start. */
+/* Takes `length` bytes of memory and as many marks, and makes a fresh start. Where that is refused, so is every other call until one is not. */
 static inline glint_outcome glint_bench_init(glint_bench *bench, uint8_t *memory, uint8_t *marks, size_t length)
 {
     memset(bench, 0, sizeof *bench);
@@ -416,6 +445,8 @@ static inline glint_outcome glint_bench_init(glint_bench *bench, uint8_t *memory
 
 static inline glint_outcome glint_bench_request(glint_bench *bench, uint32_t target, uint32_t number, void *buffer, size_t length)
 {
+    if (glint_bench_is_null(bench) || glint_is_null(buffer, length))
+        return glint_null_refusal();
     glint_kept kept = glint_request(bench->state, glint_bytes(bench->memory), bench->memory_length, glint_bytes(bench->marks),
                                     bench->marks_length, target, number, glint_bytes_mut(buffer), length);
     return glint_bench_keep(bench, &kept);
@@ -433,10 +464,15 @@ static inline glint_outcome glint_bench_check_extension(glint_bench *bench, uint
     return glint_bench_request(bench, GLINT_CONTAINER, GLINT_CHECK_EXTENSION, &extension, sizeof extension);
 }
 
+/* The calls that fill a struct work on a copy: a refusal leaves the caller's. */
+
 static inline glint_outcome glint_bench_iommu_info(glint_bench *bench, glint_iommu_info *info)
 {
-    info->argsz = sizeof *info;
-    return glint_bench_request(bench, GLINT_CONTAINER, GLINT_IOMMU_GET_INFO, info, sizeof *info);
+    glint_iommu_info asked = {sizeof asked, 0, 0};
+    glint_outcome outcome = glint_bench_request(bench, GLINT_CONTAINER, GLINT_IOMMU_GET_INFO, &asked, sizeof asked);
+    if (!outcome.refused)
+        *info = asked;
+    return outcome;
 }
 
 /* Shows `size` bytes of memory from `memory` on at the device addresses from `device` on. */
@@ -459,22 +495,29 @@ static inline glint_outcome glint_bench_unmap(glint_bench *bench, glint_device_a
 
 static inline glint_outcome glint_bench_device_info(glint_bench *bench, glint_device_info *info)
 {
-    info->argsz = sizeof *info;
-    return glint_bench_request(bench, GLINT_DEVICE, GLINT_DEVICE_GET_INFO, info, sizeof *info);
+    glint_device_info asked = {sizeof asked, 0, 0, 0};
+    glint_outcome outcome = glint_bench_request(bench, GLINT_DEVICE, GLINT_DEVICE_GET_INFO, &asked, sizeof asked);
+    if (!outcome.refused)
+        *info = asked;
+    return outcome;
 }
 
 static inline glint_outcome glint_bench_region_info(glint_bench *bench, uint32_t index, glint_region_info *info)
 {
-    info->argsz = sizeof *info;
-    info->index = index;
-    return glint_bench_request(bench, GLINT_DEVICE, GLINT_DEVICE_GET_REGION_INFO, info, sizeof *info);
+    glint_region_info asked = {sizeof asked, 0, index, 0, 0, 0};
+    glint_outcome outcome = glint_bench_request(bench, GLINT_DEVICE, GLINT_DEVICE_GET_REGION_INFO, &asked, sizeof asked);
+    if (!outcome.refused)
+        *info = asked;
+    return outcome;
 }
 
 static inline glint_outcome glint_bench_irq_info(glint_bench *bench, uint32_t index, glint_irq_info *info)
 {
-    info->argsz = sizeof *info;
-    info->index = index;
-    return glint_bench_request(bench, GLINT_DEVICE, GLINT_DEVICE_GET_IRQ_INFO, info, sizeof *info);
+    glint_irq_info asked = {sizeof asked, 0, index, 0};
+    glint_outcome outcome = glint_bench_request(bench, GLINT_DEVICE, GLINT_DEVICE_GET_IRQ_INFO, &asked, sizeof asked);
+    if (!outcome.refused)
+        *info = asked;
+    return outcome;
 }
 
 /* Resets the device's registers; it runs or stays stopped as before. */
@@ -492,30 +535,40 @@ static inline glint_found glint_bench_look_up(const glint_bench *bench, glint_de
 
 static inline glint_outcome glint_bench_device_read(const glint_bench *bench, glint_device_address device, void *buffer, size_t length)
 {
+    if (glint_bench_is_null(bench) || glint_is_null(buffer, length))
+        return glint_null_refusal();
     return glint_device_read(bench->state, glint_bytes(bench->memory), bench->memory_length, glint_bytes(bench->marks),
                              bench->marks_length, device.value, glint_bytes_mut(buffer), length);
 }
 
 static inline glint_outcome glint_bench_device_write(glint_bench *bench, glint_device_address device, const void *buffer, size_t length)
 {
+    if (glint_bench_is_null(bench) || glint_is_null(buffer, length))
+        return glint_null_refusal();
     return glint_device_write(bench->state, glint_bytes_mut(bench->memory), bench->memory_length, glint_bytes_mut(bench->marks),
                               bench->marks_length, device.value, glint_bytes(buffer), length);
 }
 
 static inline glint_outcome glint_bench_host_write(glint_bench *bench, glint_memory_address address, const void *buffer, size_t length)
 {
+    if (glint_bench_is_null(bench) || glint_is_null(buffer, length))
+        return glint_null_refusal();
     return glint_host_write(bench->state, glint_bytes_mut(bench->memory), bench->memory_length, glint_bytes_mut(bench->marks),
                             bench->marks_length, address.value, glint_bytes(buffer), length);
 }
 
 static inline glint_outcome glint_bench_host_read(const glint_bench *bench, glint_memory_address address, void *buffer, size_t length)
 {
+    if (glint_bench_is_null(bench) || glint_is_null(buffer, length))
+        return glint_null_refusal();
     return glint_host_read(bench->state, glint_bytes(bench->memory), bench->memory_length, glint_bytes(bench->marks),
                            bench->marks_length, address.value, glint_bytes_mut(buffer), length);
 }
 
 static inline glint_outcome glint_bench_invalidate(glint_bench *bench, glint_memory_address address, uint64_t length)
 {
+    if (glint_bench_is_null(bench))
+        return glint_null_refusal();
     return glint_invalidate(bench->state, glint_bytes(bench->memory), bench->memory_length, glint_bytes_mut(bench->marks),
                             bench->marks_length, address.value, length);
 }
@@ -525,6 +578,8 @@ static inline glint_outcome glint_bench_invalidate(glint_bench *bench, glint_mem
 static inline glint_outcome glint_bench_set_register(glint_bench *bench, uint64_t kind, uint64_t selector, const void *value,
                                                      size_t length)
 {
+    if (glint_is_null(value, length))
+        return glint_null_refusal();
     glint_kept kept = glint_set_register(bench->state, kind, selector, glint_bytes(value), length);
     return glint_bench_keep(bench, &kept);
 }
@@ -532,16 +587,22 @@ static inline glint_outcome glint_bench_set_register(glint_bench *bench, uint64_
 static inline glint_outcome glint_bench_read_register(const glint_bench *bench, uint64_t kind, uint64_t selector, void *buffer,
                                                       size_t length)
 {
+    if (glint_is_null(buffer, length))
+        return glint_null_refusal();
     return glint_read_register(bench->state, kind, selector, glint_bytes_mut(buffer), length);
 }
 
 static inline glint_outcome glint_bench_load_parts(glint_bench *bench, const void *stream, size_t length)
 {
+    if (glint_is_null(stream, length))
+        return glint_null_refusal();
     return glint_load_parts_into(&bench->state, glint_bytes(stream), length);
 }
 
 static inline glint_outcome glint_bench_save_parts(const glint_bench *bench, void *buffer, size_t length)
 {
+    if (glint_is_null(buffer, length))
+        return glint_null_refusal();
     return glint_save_parts_from(&bench->state, glint_bytes_mut(buffer), length);
 }
 
@@ -566,18 +627,26 @@ typedef struct glint_walker {
 
 static inline glint_walker glint_walk(const void *stream, size_t length)
 {
-    glint_walker walker = {glint_bytes(stream), length, 0};
+    glint_walker walker = {(const uint8_t *)stream, length, 0};
     return walker;
 }
 
-/* One step. `value` and `value_length` get the stretch of the stream that is the part's value; no bytes where there is no part. */
+/*
+ * One step. `value` and `value_length` get the bytes of the stream that are the part's value, and no bytes at the end; a refusal leaves
+ * them. The walker goes on behind a part, and stays after a refusal or at the end.
+ */
 static inline glint_part_step glint_walker_step(glint_walker *walker, const uint8_t **value, size_t *value_length)
 {
-    size_t start = walker->place + GLINT_PART_HEADER;
-    glint_part_step step = glint_step(walker->stream, walker->length, walker->place);
-    bool part = !step.refused && !step.end;
-    *value = part ? walker->stream + start : walker->stream;
-    *value_length = part ? (size_t)step.next - start : 0;
+    if (glint_is_null(walker->stream, walker->length)) {
+        glint_part_step refused = {true, false, GLINT_NULL_POINTER, 0, 0, 0, 0, 0, 0, walker->place};
+        return refused;
+    }
+    const uint8_t *stream = glint_bytes(walker->stream);
+    glint_part_step step = glint_step(stream, walker->length, walker->place);
+    if (!step.refused) {
+        *value = stream + step.value_start;
+        *value_length = (size_t)step.value_length;
+    }
     walker->place = (size_t)step.next;
     return step;
 }

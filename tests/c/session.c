@@ -201,7 +201,7 @@ static void power_on(void)
     fresh_bench();
     CHECK(bench.state.memory_length == ROOM);
     CHECK(bench.state.table.count == 0);
-    CHECK(!bench.state.running);
+    CHECK(bench.state.running == 0);
     CHECK(marked(0, ROOM, 0));
     CHECK(all_filler(fenced_bytes(&memory), ROOM));
 
@@ -210,7 +210,7 @@ static void power_on(void)
     CHECK_DONE(glint_bench_start(&bench), 0);
     CHECK_DONE(glint_bench_power_on(&bench), 0);
     CHECK(bench.state.table.count == 0);
-    CHECK(!bench.state.running);
+    CHECK(bench.state.running == 0);
     CHECK(marked(0, ROOM, 0));
     CHECK(fenced_bytes(&memory)[5] == 'x');
 }
@@ -232,7 +232,7 @@ static void bad_bench(void)
     CHECK(bench.state.table.count == GLINT_MAPPINGS + 1);
     CHECK_REFUSED(glint_bench_look_up(&bench, glint_device(0)).outcome, GLINT_BAD_BENCH, 0);
     bench.state = sound;
-    bench.state.registers.slots[5].set = false;
+    bench.state.registers.slots[5].set = 0;
     CHECK_REFUSED(glint_bench_save_parts(&bench, fill(&buffer, 64), 64), GLINT_BAD_BENCH, 0);
     CHECK(all_filler(buffer.all, sizeof buffer.all));
 }
@@ -481,7 +481,7 @@ static void registers(void)
     CHECK_DONE(glint_bench_set_register(&bench, GLINT_DEVICE_STATUS, 0, "\x0f", 1), 0);
     CHECK_DONE(glint_bench_start(&bench), 0);
     CHECK_DONE(glint_bench_request(&bench, GLINT_DEVICE, _IOC_NR(VFIO_DEVICE_RESET), NULL, 0), 0);
-    CHECK(bench.state.running);
+    CHECK(bench.state.running == 1);
     CHECK_DONE(glint_bench_read_register(&bench, GLINT_DEVICE_STATUS, 0, fill(&buffer, 1), 1), 1);
     CHECK(fenced_bytes(&buffer)[0] == 0);
     CHECK_REFUSED(glint_bench_read_register(&bench, GLINT_QUEUE_CONFIG, 3, fill(&buffer, 40), 40), GLINT_UNSET, 0);
@@ -519,7 +519,7 @@ static void save_and_load(void)
     CHECK_DONE(glint_load_parts_into(&bench.state, reset_saved, sizeof reset_saved), 0);
     CHECK(memcmp(&kept.state, &bench.state, sizeof given) == 0);
     CHECK(memcmp(&kept.state.table, &given.table, sizeof given.table) == 0);
-    CHECK(given.registers.slots[4].set && !kept.state.registers.slots[4].set);
+    CHECK(given.registers.slots[4].set == 1 && kept.state.registers.slots[4].set == 0);
     kept = glint_load_parts(given, twice, sizeof twice);
     CHECK_REFUSED(kept.outcome, GLINT_TWICE, 17);
     CHECK(memcmp(&kept.state, &given, sizeof given) == 0);
@@ -545,16 +545,22 @@ static void steps(void)
     step = glint_walker_step(&walker, &value, &length);
     CHECK(step.kind == GLINT_DEVICE_STATUS && step.flags == 0 && step.next == 41);
     CHECK(value == reset_saved + 40 && length == 1);
+    CHECK(step.value_start == 40 && step.value_length == 1);
     for (int again = 0; again < 2; again++) {
+        length = 99;
         step = glint_walker_step(&walker, &value, &length);
-        CHECK(step.end && !step.refused && step.next == 41 && length == 0);
+        CHECK(step.end && !step.refused && step.next == 41 && length == 0 && step.value_start == 0);
     }
 
+    // A refusal leaves what the caller had.
     walker = glint_walk(reset_saved, 40);
     walker.place = 24;
+    value = reset_saved + 7;
+    length = 99;
     for (int again = 0; again < 2; again++) {
         step = glint_walker_step(&walker, &value, &length);
         CHECK(step.refused && !step.end && step.code == GLINT_TRUNCATED && step.place == 24);
+        CHECK(walker.place == 24 && value == reset_saved + 7 && length == 99);
     }
     step = glint_step(reset_saved, 41, 42);
     CHECK(step.refused && step.code == GLINT_TRUNCATED && step.place == 42);
@@ -588,6 +594,77 @@ static void no_memory(void)
     CHECK(glint_walker_step(&walker, &value, &length).end);
 }
 
+// A null pointer with a length above 0 is refused by the header, and nothing is read or written.
+static void null_pointers(void)
+{
+    fresh_bench();
+    const glint_state before = bench.state;
+    CHECK_REFUSED(glint_bench_host_write(&bench, glint_memory(0), NULL, 1), GLINT_NULL_POINTER, 0);
+    CHECK_REFUSED(glint_bench_host_read(&bench, glint_memory(0), NULL, 1), GLINT_NULL_POINTER, 0);
+    CHECK_REFUSED(glint_bench_device_write(&bench, glint_device(0), NULL, 1), GLINT_NULL_POINTER, 0);
+    CHECK_REFUSED(glint_bench_device_read(&bench, glint_device(0), NULL, 1), GLINT_NULL_POINTER, 0);
+    CHECK_REFUSED(glint_bench_request(&bench, GLINT_DEVICE, GLINT_DEVICE_RESET, NULL, 1), GLINT_NULL_POINTER, 0);
+    CHECK_REFUSED(glint_bench_set_register(&bench, GLINT_DEVICE_STATUS, 0, NULL, 1), GLINT_NULL_POINTER, 0);
+    CHECK_REFUSED(glint_bench_read_register(&bench, GLINT_DEVICE_STATUS, 0, NULL, 1), GLINT_NULL_POINTER, 0);
+    CHECK_REFUSED(glint_bench_load_parts(&bench, NULL, 17), GLINT_NULL_POINTER, 0);
+    CHECK_REFUSED(glint_bench_save_parts(&bench, NULL, 64), GLINT_NULL_POINTER, 0);
+    CHECK(memcmp(&bench.state, &before, sizeof before) == 0);
+
+    static glint_bench half;
+    uint8_t byte = FILLER;
+    CHECK_REFUSED(glint_bench_init(&half, NULL, &byte, 1), GLINT_NULL_POINTER, 0);
+    CHECK_REFUSED(glint_bench_init(&half, &byte, NULL, 1), GLINT_NULL_POINTER, 0);
+    CHECK_REFUSED(glint_bench_invalidate(&half, glint_memory(0), 0), GLINT_NULL_POINTER, 0);
+    CHECK_REFUSED(glint_bench_reset(&half), GLINT_NULL_POINTER, 0);
+    CHECK(byte == FILLER);
+
+    const uint8_t *value = &byte;
+    size_t length = 99;
+    glint_walker walker = glint_walk(NULL, 17);
+    glint_part_step step = glint_walker_step(&walker, &value, &length);
+    CHECK(step.refused && !step.end && step.code == GLINT_NULL_POINTER && step.next == 0);
+    CHECK(value == &byte && length == 99 && walker.place == 0);
+}
+
+// A refused call that fills a struct leaves the caller's as it was.
+static void refused_info(void)
+{
+    fresh_bench();
+    glint_iommu_info iommu;
+    glint_device_info device;
+    glint_region_info region;
+    glint_irq_info irq;
+    memset(&iommu, FILLER, sizeof iommu);
+    memset(&device, FILLER, sizeof device);
+    memset(&region, FILLER, sizeof region);
+    memset(&irq, FILLER, sizeof irq);
+    CHECK_REFUSED(glint_bench_region_info(&bench, 9, &region), GLINT_INDEX, 0);
+    CHECK_REFUSED(glint_bench_irq_info(&bench, 4, &irq), GLINT_INDEX, 0);
+    bench.state.memory_length++;
+    CHECK_REFUSED(glint_bench_iommu_info(&bench, &iommu), GLINT_BAD_BENCH, 0);
+    CHECK_REFUSED(glint_bench_device_info(&bench, &device), GLINT_BAD_BENCH, 0);
+    CHECK(all_filler((const uint8_t *)&iommu, sizeof iommu) && all_filler((const uint8_t *)&device, sizeof device));
+    CHECK(all_filler((const uint8_t *)&region, sizeof region) && all_filler((const uint8_t *)&irq, sizeof irq));
+}
+
+// Of the bytes that say whether a register is set and whether the device runs, 1 says yes and every other value no.
+static void flag_bytes(void)
+{
+    fresh_bench();
+    bench.state.registers.slots[6].set = 3; // a queue that holds no acceptable value
+    bench.state.registers.slots[6].bytes[0] = 3;
+    bench.state.running = 255;
+    CHECK_DONE(glint_bench_save_parts(&bench, fill(&buffer, 41), 41), 41);
+    CHECK_REFUSED(glint_bench_read_register(&bench, GLINT_QUEUE_CONFIG, 0, fill(&buffer, 32), 32), GLINT_UNSET, 0);
+    CHECK_DONE(glint_bench_stop(&bench), 0);
+    CHECK(bench.state.running == 0 && bench.state.registers.slots[6].set == 3);
+    bench.state.registers.slots[6].set = 1;
+    CHECK_REFUSED(glint_bench_stop(&bench), GLINT_BAD_BENCH, 0);
+    bench.state.registers.slots[6].set = 0;
+    bench.state.registers.slots[5].set = 129; // status
+    CHECK_REFUSED(glint_bench_start(&bench), GLINT_BAD_BENCH, 0);
+}
+
 static void refusal_names(void)
 {
     CHECK(strcmp(glint_refusal_name(GLINT_BAD_BENCH), "BadBench") == 0);
@@ -596,7 +673,7 @@ static void refusal_names(void)
     CHECK(strcmp(glint_refusal_name(GLINT_UNWRITTEN), "Unwritten") == 0);
     CHECK(strcmp(glint_refusal_name(GLINT_TWICE), "Twice") == 0);
     CHECK(strcmp(glint_refusal_name(GLINT_NO_SPACE), "NoSpace") == 0);
-    CHECK(strcmp(glint_refusal_name(0), "?") == 0);
+    CHECK(strcmp(glint_refusal_name(GLINT_NULL_POINTER), "NullPointer") == 0);
     CHECK(strcmp(glint_refusal_name(28), "?") == 0);
 }
 
@@ -611,6 +688,7 @@ int main(void)
         TEST(power_on),     TEST(bad_bench),     TEST(container),  TEST(iommu_info),  TEST(map_and_look_up), TEST(table_full),
         TEST(unmap_ranges), TEST(device_reads),  TEST(device_writes), TEST(host_loads), TEST(device_info),   TEST(region_info),
         TEST(irq_info),     TEST(registers),     TEST(save_and_load), TEST(steps),      TEST(no_memory),     TEST(refusal_names),
+        TEST(null_pointers), TEST(refused_info), TEST(flag_bytes),
     };
     const unsigned count = sizeof tests / sizeof *tests;
     unsigned failed = 0;

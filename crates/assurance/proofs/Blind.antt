@@ -20,18 +20,18 @@ use Rattle.answer.proofs.Checks.{never, then-pass, unless-pass, firstFault-all}
 use Rattle.address.specs.Address.{memoryAddress, deviceOffset, memoryOffset, inMemoryRange}
 use Rattle.address.specs.declared.DeviceAddress.{DeviceAddress}
 use Rattle.address.specs.declared.MemoryAddress.{MemoryAddress}
-use Rattle.wire.specs.Field.{field, part}
+use Rattle.wire.specs.Field.{field, slice}
 use Rattle.iommu.specs.Table.{translate}
 use Rattle.iommu.specs.declared.Mapping.{Mapping}
 use Rattle.iommu.specs.declared.Translation.{Translation}
 use Rattle.iommu.specs.declared.Translation.the-variants.{At, Nowhere}
 use Rattle.memory.specs.Shadow.{initialized}
 use Rattle.memory.specs.Memory.{Memory, byteAt, bytesFrom}
-use Rattle.memory.specs.Transfers.{unwrittenAt, hostReadChecks}
+use Rattle.memory.specs.Transfers.{unwrittenAt, unwrittenIn, hostWriteChecks, hostReadChecks}
 use Rattle.dma.specs.Transfers.{readFault, transferChecks, deviceReadChecks, location, gather}
 use Rattle.emulator.specs.Machine.{Machine, Emulator, Given, memoryAlone, stateAlone, both, usable, lendable, asNoted}
 use Rattle.emulator.specs.Effect.{Effect, Outcome, effectOf, outcomeOf, writing}
-use Rattle.emulator.specs.Requests.{Request, getApiVersion, checkExtension, getIommuInfo, mapDma, unmapDma, getInfo, getRegionInfo, getIrqInfo, resetDevice, Entry, requests, entryIn, identify, inFields, inputOf, requestedMapping, requestedStart, requestedSize, requestedIndex, argszChecks, listedChecks, requestChecks, listedEffect, requestEffect}
+use Rattle.emulator.specs.Requests.{Request, getApiVersion, checkExtension, getIommuInfo, mapDma, unmapDma, getInfo, getRegionInfo, getIrqInfo, resetDevice, Entry, requests, entryIn, identify, inFields, inputOf, requestedMapping, requestedStart, requestedSize, requestedIndex, argszChecks, listedChecks, sizeChecks, requestChecks, listedEffect, requestEffect}
 use Rattle.emulator.specs.Calls.{Call, powerOn, request, lookUp, deviceRead, deviceWrite, hostWrite, hostRead, invalidate, setRegister, readRegister, loadParts, saveParts, stop, start, given, input, ownChecks, checks, front, effect, outcome}
 use Rattle.assurance.specs.Overwrite.{overwrite, mask}
 use Rattle.assurance.specs.Runs.{written}
@@ -148,7 +148,7 @@ record RequestBlind (buf : List ℕ) (e : Emulator) (o : Option Entry) : Type 0 
   its-effect : requestEffect o (mask (inputOf o) buf) (seen e) ≡ requestEffect o buf e
 
 request-blind : (buf : List ℕ) (e : Emulator) (target number : ℕ) → RequestBlind buf e (identify target number)
-unfolding identify requestChecks requestEffect seen inputOf entryReads
+unfolding identify sizeChecks requestChecks requestEffect seen inputOf entryReads
 request-blind buf e = entry-by (RequestBlind buf e) absent listed requests all-read
   where
     absent : RequestBlind buf e none
@@ -220,10 +220,10 @@ gather-blind ms e (suc n) d h =
 -- what passed checks say of every offset
 pub host-read-passed : (size : ℕ) (shadow : List ℕ) (a : MemoryAddress) (n : ℕ) → hostReadChecks size shadow a n ≡ Pass
     → (a .0 + n ≤ size) × ((i : ℕ) → i < n → initialized shadow (memoryOffset a i) ≡ true)
-unfolding hostReadChecks inMemoryRange
+unfolding hostReadChecks hostWriteChecks unwrittenIn inMemoryRange
 host-read-passed size shadow a n h =
-    let t = then-pass _ _ (then-pass _ _ h .1) in
-    (leb-true _ _ (unless-pass _ _ (t .0)), λ i lt. unwritten-clear shadow (memoryOffset a i) (firstFault-all _ n (t .1) i lt))
+    let t = then-pass _ _ h in
+    (leb-true _ _ (unless-pass _ _ (then-pass _ _ (t .0) .1)), λ i lt. unwritten-clear shadow (memoryOffset a i) (firstFault-all _ n (t .1) i lt))
 
 pub transfer-passed : (fault : Translation → Verdict) (ms : List Mapping) (d : DeviceAddress) (n : ℕ) → transferChecks fault ms d n ≡ Pass
     → (i : ℕ) → i < n → fault (translate ms (deviceOffset d i)) ≡ Pass

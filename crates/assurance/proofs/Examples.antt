@@ -7,21 +7,21 @@ use Rattle.answer.specs.Checks.{_then_, _when_, _unless_, _at_, firstFault, pas
 use Rattle.answer.specs.Answer.{settle}
 use Rattle.address.specs.Address.{inMemoryRange}
 use Rattle.wire.specs.Field.{field, bytesOf}
-use Rattle.iommu.specs.Table.{soundFrom, soundTable}
+use Rattle.iommu.specs.Table.{soundMappingsFrom, soundTable}
 use Rattle.memory.specs.Shadow.{initialized, marked, shadowLength}
 use Rattle.memory.specs.Memory.{edit, edited, stores, clears, bytesFrom}
-use Rattle.memory.specs.Transfers.{unwrittenAt, hostWriteChecks, hostReadChecks, invalidateChecks}
+use Rattle.memory.specs.Transfers.{unwrittenAt, unwrittenIn, hostWriteChecks, hostReadChecks, invalidateChecks}
 use Rattle.registers.specs.Rows.{kindOf, sizeOf}
 use Rattle.registers.specs.Values.{contentChecks, valueChecks}
-use Rattle.registers.specs.File.{current, withValue, reset, soundValue, soundFrom as soundRegistersFrom, soundFile}
+use Rattle.registers.specs.File.{current, withValue, reset, soundValue, soundValuesFrom, soundFile}
 use Rattle.emulator.specs.Machine.{soundMappings, soundLength, sound, lendable, asNoted, usable, poweredOn}
 use Rattle.emulator.specs.Effect.{effectOf, outcomeOf, after, filled}
-use Rattle.emulator.specs.Requests.{entryIn, identify, inFields, inputOf, interruptAt, requestedIndex, argszChecks, listedChecks, requestChecks, listedEffect, requestEffect}
+use Rattle.emulator.specs.Requests.{entryIn, identify, inFields, inputOf, interruptAt, requestedIndex, argszChecks, listedChecks, sizeChecks, requestChecks, listedEffect, requestEffect}
 use Rattle.emulator.specs.Calls.{given, input, ownChecks, checks, effect, outcome}
 use Rattle.assurance.specs.Overwrite.{overwrite}
 use Rattle.assurance.specs.Runs.{written, disturbed, lentTo, event, turn, run}
-use Rattle.assurance.specs.Examples.{filledWith, noise, calls, answersOf, buffersOf, answers, buffers, WorkedRuns}
+use Rattle.assurance.specs.Examples.{filledWith, noise, calls, answersOf, buffersOf, expectedAnswers, expectedBuffers, WorkedRuns}
 
 pub worked : WorkedRuns
-unfolding filledWith noise calls answersOf buffersOf answers buffers overwrite written disturbed lentTo event turn run given input ownChecks checks effect outcome _and_ _or_ pick isSome lengthCheck _then_ _when_ _unless_ _at_ firstFault passes settle inMemoryRange field bytesOf soundFrom soundTable initialized marked shadowLength edit edited stores clears bytesFrom unwrittenAt hostWriteChecks hostReadChecks invalidateChecks kindOf sizeOf contentChecks valueChecks current withValue reset soundValue soundRegistersFrom soundFile soundMappings soundLength sound lendable asNoted usable poweredOn effectOf outcomeOf after filled entryIn identify inFields inputOf interruptAt requestedIndex argszChecks listedChecks requestChecks listedEffect requestEffect
+unfolding filledWith noise calls answersOf buffersOf expectedAnswers expectedBuffers overwrite written disturbed lentTo event turn run given input ownChecks checks effect outcome _and_ _or_ pick isSome lengthCheck _then_ _when_ _unless_ _at_ firstFault passes settle inMemoryRange field bytesOf soundMappingsFrom soundTable initialized marked shadowLength edit edited stores clears bytesFrom unwrittenAt unwrittenIn hostWriteChecks hostReadChecks invalidateChecks kindOf sizeOf contentChecks valueChecks current withValue reset soundValue soundValuesFrom soundFile soundMappings soundLength sound lendable asNoted usable poweredOn effectOf outcomeOf after filled entryIn identify inFields inputOf interruptAt requestedIndex argszChecks listedChecks sizeChecks requestChecks listedEffect requestEffect
 worked = record { first = refl; first-buffers = refl; second = refl; second-buffers = refl }

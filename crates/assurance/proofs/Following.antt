@@ -17,7 +17,7 @@ use Rattle.answer.proofs.Tests.{and-true}
 use Rattle.answer.proofs.Checks.{never, then-pass, when-pass, unless-pass}
 use Rattle.address.specs.Address.{memoryAddress, deviceOffset, memoryOffset}
 use Rattle.address.specs.declared.DeviceAddress.{DeviceAddress}
-use Rattle.wire.specs.Field.{part}
+use Rattle.wire.specs.Field.{slice}
 use Rattle.wire.proofs.Laws.{sets-all}
 use Rattle.iommu.specs.Table.{holds, translate, inside}
 use Rattle.iommu.specs.Requests.{mapChecks}
@@ -32,11 +32,11 @@ use Rattle.dma.specs.Transfers.{readFault, writeFault, deviceReadChecks, device
 use Rattle.dma.proofs.Gather.{gather-length}
 use Rattle.emulator.specs.Machine.{Machine, Emulator, both, usable, lendable, sound, soundMappings, poweredOn, withMappings, withRegisters, withRunning}
 use Rattle.emulator.specs.Effect.{Result, value, Effect, Outcome, effectOf, outcomeOf, after, filled}
-use Rattle.emulator.specs.Requests.{Request, getApiVersion, checkExtension, getIommuInfo, mapDma, unmapDma, getInfo, getRegionInfo, getIrqInfo, resetDevice, Entry, identify, requestedMapping, requestedStart, requestedSize, listedChecks, requestChecks, listedEffect, requestEffect}
+use Rattle.emulator.specs.Requests.{Request, getApiVersion, checkExtension, getIommuInfo, mapDma, unmapDma, getInfo, getRegionInfo, getIrqInfo, resetDevice, Entry, identify, requestedMapping, requestedStart, requestedSize, listedChecks, sizeChecks, requestChecks, listedEffect, requestEffect}
 use Rattle.emulator.specs.Calls.{Call, powerOn, request, lookUp, deviceRead, deviceWrite, hostWrite, hostRead, invalidate, setRegister, readRegister, loadParts, saveParts, stop, start, given, input, ownChecks, checks, effect, outcome}
 use Rattle.assurance.specs.Overwrite.{mask}
 use Rattle.assurance.specs.Runs.{Ask, Others, Event, written, disturbed, lentTo, event, turn, run}
-use Rattle.assurance.specs.Ledger.{Bytes, Ledger, empty, requestEntry, listedEntry, entry, inputBytes, fed, heldAt, FilledBy, Owed, OwedIf, Follows}
+use Rattle.assurance.specs.Ledger.{Bytes, Ledger, empty, ledgerAfterRequest, ledgerAfterListed, ledgerAfter, inputBytes, fed, heldAt, FilledBy, Owed, OwedIf, Follows}
 use Rattle.assurance.proofs.Overwrite.{length-overwrite, overwrite-overwrite, length-mask, getD-kept}
 use Rattle.assurance.proofs.Blind.{seen, blind, read-clear, host-read-passed, transfer-passed}
 use Rattle.assurance.proofs.Agreement.{mask-lent}
@@ -73,8 +73,8 @@ unfolding usable sound soundMappings
 usable-apart e h = sound-apart _ _ (and-true _ _ (and-true _ _ (and-true _ _ (and-true _ _ h .1) .0) .1) .1)
 
 module _ (l : Ledger) (e : Emulator) (buf : List ℕ) (h : Books l e) where
-  listed-books : (q : Request) → Apart (e .machine .mappings) → listedChecks q buf e ≡ Pass → Books (requestEntry q buf l) (after (listedEffect q buf e) e)
-  unfolding requestEntry listedEffect listedChecks after edited withMappings withRegisters Apart find mapChecks
+  listed-books : (q : Request) → Apart (e .machine .mappings) → listedChecks q buf e ≡ Pass → Books (ledgerAfterRequest q buf l) (after (listedEffect q buf e) e)
+  unfolding ledgerAfterRequest listedEffect listedChecks after edited withMappings withRegisters Apart find mapChecks
   listed-books getApiVersion a ok = h
   listed-books checkExtension a ok = h
   listed-books getIommuInfo a ok = h
@@ -98,14 +98,14 @@ module _ (l : Ledger) (e : Emulator) (buf : List ℕ) (h : Books l e) where
   listed-books getIrqInfo a ok = h
   listed-books resetDevice a ok = record { bytes = h .bytes; maps = h .maps; apart = h .apart }
 
-  request-books : (o : Option Entry) → Apart (e .machine .mappings) → requestChecks o buf e ≡ Pass → Books (listedEntry o buf l) (after (requestEffect o buf e) e)
-  unfolding listedEntry requestEffect requestChecks
+  request-books : (o : Option Entry) → Apart (e .machine .mappings) → requestChecks o buf e ≡ Pass → Books (ledgerAfterListed o buf l) (after (requestEffect o buf e) e)
+  unfolding ledgerAfterListed requestEffect sizeChecks requestChecks
   request-books none a ok = never _ _ ok
-  request-books (some r) a ok = listed-books (r .request) a (then-pass _ _ (then-pass _ _ ok .1) .1)
+  request-books (some r) a ok = listed-books (r .request) a (then-pass _ _ ok .1)
 
 books-after : (c : Call) (l : Ledger) (e : Emulator) (buf : List ℕ) → Books l e → usable (given c) e ≡ true → ownChecks c buf e ≡ Pass
-    → Books (entry c buf l) (after (effect c buf e) e)
-unfolding given entry effect ownChecks after edited find Apart empty poweredOn withRegisters withRunning deviceWriteChecks
+    → Books (ledgerAfter c buf l) (after (effect c buf e) e)
+unfolding given ledgerAfter effect ownChecks after edited find Apart empty poweredOn withRegisters withRunning deviceWriteChecks
 books-after powerOn l e buf h good ok =
     record {
       bytes = clears-holds (l .byte) (λ a. none) (memoryAddress 0) (length (e .memory .bytes)) (e .memory) (h .bytes)
@@ -173,7 +173,7 @@ owed (hostWrite a) l e buf lent p h ok = tt
 owed (hostRead a) l e buf lent p h ok =
     let r = host-read-passed _ _ a (length buf) ok in
     let bytes : List ℕ = e .memory .bytes in
-    filled-by _ lent (part bytes (a .0) (length buf)) (length buf) p
+    filled-by _ lent (slice bytes (a .0) (length buf)) (length buf) p
     (length-take-le (length buf) (drop (a .0) bytes) (omega (arith, length-drop (a .0) bytes)))
     (λ i q. rw (getD-take (length buf) (drop (a .0) bytes) i 0 q, getD-drop (a .0) bytes i 0) (h .bytes .bytes (memoryOffset a i) (r .1 i q)))
 owed (invalidate a n) l e buf lent p h ok = tt
@@ -229,7 +229,7 @@ unfoldable ownLedger : Memory → Ledger
 ownLedger m = record { mappings = []; byte = λ a. some (byteAt m a) }
 
 fresh-books : (e : Emulator) → usable (given powerOn) e ≡ true → Books empty (after (effect powerOn [] e) e)
-unfolding usable lendable shadowLength given effect ownLedger find Apart entry after poweredOn ownChecks
+unfolding usable lendable shadowLength given effect ownLedger find Apart ledgerAfter after poweredOn ownChecks
 fresh-books e good =
     let level : length (e .memory .bytes) ≡ length (e .memory .shadow) = sym (eqb-true _ _ (and-true _ _ good .0)) in
     let bare : Emulator = record { memory = e .memory; machine = poweredOn 0 } in

@@ -1,4 +1,4 @@
--- The starred worked values hold: one test that is computed over the whole table, and the law that a passed test is the statement.
+-- The worked values hold: one test that is computed over the whole table, and the law that a passed test is the statement.
 use Prim.Native.Nat.{ℕ}
 use mathlib.Core.Path.{_≡_, refl, ap, ap₂}
 use mathlib.Core.Bool.{Bool, true, false, false≢true}
@@ -13,7 +13,7 @@ use Rattle.answer.proofs.Tests.{and-true}
 use Rattle.address.specs.Address.{memoryAddress, aligned, inDeviceRange, inMemoryRange}
 use Rattle.address.specs.declared.MemoryAddress.{MemoryAddress}
 use Rattle.wire.specs.Field.{field, bytesOf}
-use Rattle.iommu.specs.Table.{holds, addressIn, translate, mapped, validRights, readable, alignedMapping, inRange, soundMapping, soundFrom as soundMappingsFrom, soundTable, touches, inside, anyOf, overlaps, cuts, insert, without, sizeOf as sizesOf}
+use Rattle.iommu.specs.Table.{holds, addressIn, translate, mapped, validRights, readable, alignedMapping, inRange, soundMapping, soundMappingsFrom, soundTable, touches, inside, anyOf, overlaps, cuts, insert, without, totalSize}
 use Rattle.iommu.specs.Requests.{mapChecks, unmapChecks}
 use Rattle.memory.specs.Shadow.{initialized, marked, shadowLength}
 use Rattle.memory.specs.Memory.{edit, edited, stores}
@@ -21,14 +21,14 @@ use Rattle.memory.specs.Transfers.{unwrittenAt, hostWriteChecks}
 use Rattle.dma.specs.Transfers.{readFault, transferChecks, deviceReadChecks}
 use Rattle.registers.specs.Rows.{kindOf, selectorOf, sizeOf, rowFrom, rowOf, selects, listed, selectorWidth}
 use Rattle.registers.specs.Values.{powerOfTwo, validQueue, contentChecks, valueChecks}
-use Rattle.registers.specs.File.{current, withValue, reset, soundValue, soundFrom, soundFile}
+use Rattle.registers.specs.File.{current, withValue, reset, soundValue, soundValuesFrom, soundFile}
 use Rattle.registers.specs.Access.{selectorChecks, setChecks}
-use Rattle.parts.specs.Step.{valueSize, headerChecks, partAt, stepOn, stepAt, valueTo}
+use Rattle.parts.specs.Step.{valueSize, headerChecks, partAt, stepOn, partStep, stepAt, valueTo}
 use Rattle.parts.specs.Load.{flagsOf, listedChecks as listedPartChecks, partChecks, named, taken, finish, onStep, loadFrom, load}
 use Rattle.parts.specs.Save.{encoded, partOf, savedFrom, saved, saveChecks}
 use Rattle.emulator.specs.Machine.{soundMappings, soundLength, sound, lendable, asNoted, usable, poweredOn, withMappings, withRegisters}
 use Rattle.emulator.specs.Effect.{Result, value, location, effectOf, outcomeOf, after, filled}
-use Rattle.emulator.specs.Requests.{entryIn, identify, regionAt, requestedMapping, requestedStart, requestedSize, requestedIndex, argszChecks, listedChecks, requestChecks, listedEffect, requestEffect}
+use Rattle.emulator.specs.Requests.{entryIn, identify, regionAt, requestedMapping, requestedStart, requestedSize, requestedIndex, argszChecks, listedChecks, sizeChecks, requestChecks, listedEffect, requestEffect}
 use Rattle.emulator.specs.Calls.{given, ownChecks, checks, effect, outcome}
 use Rattle.assurance.specs.Starred.{Case, Right, AllRight, none, more, outcomeTo, behind, outcomeIn, mapAt, unmapBuffer, unmapAt, twoMappings, statusPart, offeredPart, regionSeven, cases, Starred}
 
@@ -95,7 +95,7 @@ all-right (c ∷ cs) h = more (is-right c (and-true _ _ h .0)) (all-right cs (an
 -- ---- the test passes
 
 tested : allRight cases ≡ true
-unfolding sameResult sameAnswer sameBytes right allRight outcomeTo behind outcomeIn mapAt unmapBuffer unmapAt twoMappings statusPart offeredPart regionSeven cases _and_ _or_ pick isSome lengthCheck _then_ _when_ _unless_ _at_ firstFault passes settle _onward_ verdict resultOr aligned inDeviceRange inMemoryRange field bytesOf holds addressIn translate mapped validRights readable alignedMapping inRange soundMapping soundMappingsFrom soundTable touches inside anyOf overlaps cuts insert without sizesOf mapChecks unmapChecks initialized marked shadowLength edit edited stores unwrittenAt hostWriteChecks readFault transferChecks deviceReadChecks kindOf selectorOf sizeOf rowFrom rowOf selects listed selectorWidth powerOfTwo validQueue contentChecks valueChecks current withValue reset soundValue soundFrom soundFile selectorChecks setChecks valueSize headerChecks partAt stepOn stepAt valueTo flagsOf listedPartChecks partChecks named taken finish onStep loadFrom load encoded partOf savedFrom saved saveChecks soundMappings soundLength sound lendable asNoted usable poweredOn withMappings withRegisters effectOf outcomeOf after filled entryIn identify regionAt requestedMapping requestedStart requestedSize requestedIndex argszChecks listedChecks requestChecks listedEffect requestEffect given ownChecks checks effect outcome
+unfolding sameResult sameAnswer sameBytes right allRight outcomeTo behind outcomeIn mapAt unmapBuffer unmapAt twoMappings statusPart offeredPart regionSeven cases _and_ _or_ pick isSome lengthCheck _then_ _when_ _unless_ _at_ firstFault passes settle _onward_ verdict resultOr aligned inDeviceRange inMemoryRange field bytesOf holds addressIn translate mapped validRights readable alignedMapping inRange soundMapping soundMappingsFrom soundTable touches inside anyOf overlaps cuts insert without totalSize mapChecks unmapChecks initialized marked shadowLength edit edited stores unwrittenAt hostWriteChecks readFault transferChecks deviceReadChecks kindOf selectorOf sizeOf rowFrom rowOf selects listed selectorWidth powerOfTwo validQueue contentChecks valueChecks current withValue reset soundValue soundValuesFrom soundFile selectorChecks setChecks valueSize headerChecks partAt stepOn partStep stepAt valueTo flagsOf listedPartChecks partChecks named taken finish onStep loadFrom load encoded partOf savedFrom saved saveChecks soundMappings soundLength sound lendable asNoted usable poweredOn withMappings withRegisters effectOf outcomeOf after filled entryIn identify regionAt requestedMapping requestedStart requestedSize requestedIndex argszChecks listedChecks sizeChecks requestChecks listedEffect requestEffect given ownChecks checks effect outcome
 tested = refl
 
 pub starred : Starred

@@ -29,8 +29,8 @@ filledWith x =
 unfoldable pub noise : ℕ → ℕ → Others
 noise seed n = record { memory = λ a. seed + n; buffer = λ i. seed + i }
 
--- a load that is refused for the state; a fresh start; a store; a load of what was stored; one that goes a byte further; request 109,
--- index 0; a forget of the first byte, and a load that now meets it
+-- a host read that is refused for the state; power on; a host write; a read of what was written; one that goes a byte further; request 109,
+-- index 0; the first byte invalidated, and a read that now meets it
 unfoldable pub calls : List Ask
 calls =
     (hostRead (memoryAddress 0) lent 0 ∷ [])
@@ -52,12 +52,12 @@ buffersOf [] = []
 buffersOf (e ∷ es) = e .buffer ∷ buffersOf es
 
 -- the answers, on both sides
-unfoldable pub answers : List (Answer Result)
-answers = refused BadBench 0 ∷ gives 0 ∷ gives 0 ∷ gives 0 ∷ refused Unwritten 2 ∷ gives 0 ∷ gives 0 ∷ refused Unwritten 0 ∷ []
+unfoldable pub expectedAnswers : List (Answer Result)
+expectedAnswers = refused BadBench 0 ∷ gives 0 ∷ gives 0 ∷ gives 0 ∷ refused Unwritten 2 ∷ gives 0 ∷ gives 0 ∷ refused Unwritten 0 ∷ []
 
 -- the buffers, where others write `x`, `x + 1`, .. at stale offsets: bytes that a call writes are its own, and the others stay
-unfoldable pub buffers : ℕ → List (List ℕ)
-buffers x =
+unfoldable pub expectedBuffers : ℕ → List (List ℕ)
+expectedBuffers x =
     (x ∷ [])
     ∷ []
     ∷ (11 ∷ 12 ∷ [])
@@ -69,7 +69,7 @@ buffers x =
     ∷ []
 
 pub record WorkedRuns : Type 0 where
-  pub first : answersOf (run (filledWith 5) calls (noise 100)) ≡ answers
-  pub first-buffers : buffersOf (run (filledWith 5) calls (noise 100)) ≡ buffers 100
-  pub second : answersOf (run (filledWith 77) calls (noise 200)) ≡ answers
-  pub second-buffers : buffersOf (run (filledWith 77) calls (noise 200)) ≡ buffers 200
+  pub first : answersOf (run (filledWith 5) calls (noise 100)) ≡ expectedAnswers
+  pub first-buffers : buffersOf (run (filledWith 5) calls (noise 100)) ≡ expectedBuffers 100
+  pub second : answersOf (run (filledWith 77) calls (noise 200)) ≡ expectedAnswers
+  pub second-buffers : buffersOf (run (filledWith 77) calls (noise 200)) ≡ expectedBuffers 200

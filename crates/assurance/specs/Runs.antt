@@ -1,5 +1,5 @@
--- Runs: a list of calls on an emulator, with others writing before each call (document 01, "What each public call has to say").
--- "Each call gets state, memory and marks as the last left them; meanwhile others write only unwritten memory and stale buffer bytes."
+-- Runs: a list of calls on an emulator, with others writing before each call (rule 8.7).
+-- What one call leaves the next one gets; in between others write what they like, but only where memory is unwritten or a buffer stale.
 use Prim.Native.Nat.{ℕ, suc}
 use mathlib.Core.Path.{_≡_}
 use mathlib.Core.Bool.{Bool, true}
@@ -28,7 +28,7 @@ pub record Others : Type 0 where
 unfoldable pub written : Memory → ℕ → Bool
 written m a = initialized (m .shadow) (memoryAddress a)
 
--- the emulator once others have written
+-- the emulator once others have written: marks and state are not theirs to change (rule 1.5)
 unfoldable pub disturbed : Others → Emulator → Emulator
 disturbed w e =
     record { memory = record { bytes = overwrite (written (e .memory)) (w .memory) (e .memory .bytes); shadow = e .memory .shadow }; machine = e .machine }

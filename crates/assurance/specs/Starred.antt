@@ -1,4 +1,4 @@
--- The starred worked values of document 01, as one table under one statement.
+-- The worked values of rules 7.1 to 7.12, as one table under one statement (rule 8.5).
 use Prim.Native.Nat.{ℕ, _+_, _-_, _^_}
 use mathlib.Core.Path.{_≡_}
 use mathlib.Core.Bool.{Bool}
@@ -30,7 +30,7 @@ pub record Case : Type 0 where
   pub answer : Answer Result
   pub leaves : List ℕ
 
--- as a fresh start leaves it: nothing is written, whatever bytes stand there
+-- as power on leaves it: nothing is written, whatever bytes stand there
 abbrev pub fresh : Emulator
 fresh = record { memory = record { bytes = replicate (page + page) 0xA5; shadow = replicate (page + page) 0 }; machine = poweredOn (page + page) }
 
@@ -67,7 +67,7 @@ unmapBuffer d n = bytesOf 4 24 ++ bytesOf 4 0 ++ bytesOf 8 d ++ bytesOf 8 n
 unfoldable pub unmapAt : ℕ → ℕ → Ask
 unmapAt d n = request container 114 lent unmapBuffer d n
 
--- "[0, 8192) and [8192, 12288)"
+-- [0, 8192) and [8192, 12288), as rules 7.8 and 7.9 have them
 unfoldable pub twoMappings : List Ask
 twoMappings = mapAt 0 8192 ∷ mapAt 8192 4096 ∷ []
 
@@ -78,7 +78,7 @@ unfoldable pub offeredPart : List ℕ
 offeredPart =
     0x00 ∷ 0x01 ∷ 0x01 ∷ 0x00 ∷ replicate 8 0x00 ++ 0x08 ∷ 0x00 ∷ 0x00 ∷ 0x00 ∷ 0x00 ∷ 0x00 ∷ 0x00 ∷ 0x30 ∷ 0x01 ∷ 0x00 ∷ 0x00 ∷ 0x00 ∷ []
 
--- "argsz 32 gives `20 00 00 00 03 00 00 00 07 00 00 00 00 00 00 00 00 01 00 00 00 00 00 00 00 00 00 00 00 07 00 00`"
+-- what request 108 leaves for region 7
 unfoldable pub regionSeven : List ℕ
 regionSeven =
     0x20 ∷ 0x00 ∷ 0x00 ∷ 0x00 ∷ 0x03 ∷ 0x00 ∷ 0x00 ∷ 0x00 ∷ 0x07 ∷ 0x00 ∷ 0x00 ∷ 0x00 ∷ 0x00 ∷ 0x00 ∷ 0x00 ∷ 0x00
@@ -96,34 +96,34 @@ answers before q a = record { before = before; ask = q; answer = a; leaves = q .
 
 unfoldable pub cases : List Case
 cases =
-    -- "Region 7: argsz 32 gives .."
+    -- rule 7.1: region 7, whatever its output fields held
     record {
       before = [];
       ask = request device 108 lent bytesOf 4 32 ++ stale 4 ++ bytesOf 4 7 ++ stale 20;
       answer = gives 0;
       leaves = regionSeven;
     }
-    -- "Reset card saved: .. 41 bytes."
+    -- rule 7.2: a reset device saved
     ∷ record { before = []; ask = saveParts lent stale 43; answer = gives 41; leaves = offeredPart ++ statusPart ++ stale 2 }
-    -- "The empty stream: 24 at 0."
+    -- rule 7.3: no parts
     ∷ answers [] (loadParts lent []) (refused Missing 0)
-    -- "Status part alone: accepted."
+    -- rule 7.4: status alone
     ∷ answers [] (loadParts lent statusPart) (gives 0)
-    -- "Same status part twice: 21 at 17."
+    -- rule 7.5: status twice
     ∷ answers [] (loadParts lent statusPart ++ statusPart) (refused Twice 17)
-    -- "Map at 2^48 − 4,096, size 4,096, fresh bench of two pages: accepted."
+    -- rule 7.6: the last page
     ∷ answers [] (mapAt (deviceLimit - page) 4096) (gives 0)
-    -- "Size 8,192: 9."
+    -- rule 7.7: past the last page
     ∷ answers [] (mapAt (deviceLimit - page) 8192) (refused Range 0)
-    -- "Mappings [0, 8192) and [8192, 12288): unmap [4096, 12288) is 12"
+    -- rule 7.8: a mapping cut
     ∷ answers twoMappings (unmapAt 4096 8192) (refused Cuts 0)
-    -- "unmap [0, 12288) reports 12,288"
+    -- rule 7.9: both removed, and the sum of their sizes in the size field
     ∷ record { before = twoMappings; ask = unmapAt 0 12288; answer = gives 0; leaves = unmapBuffer 0 12288 }
-    -- "Size 0 at address 1: 8, not 7."
+    -- rule 7.10: empty before unaligned
     ∷ answers [] (mapAt 1 0) (refused Empty 0)
-    -- "Queue size 3: 22."
+    -- rule 7.11: a queue of size 3
     ∷ answers [] (setRegister QueueConfig 0 lent bytesOf 2 3 ++ replicate 30 0) (refused Value 0)
-    -- "Read of two bytes, the second unwritten: 16 at 1."
+    -- rule 7.12: the second of two bytes is not written
     ∷ answers (mapAt 0 4096 ∷ (hostWrite (memoryAddress 0) lent 0x5A ∷ []) ∷ []) (deviceRead (deviceAddress 0) lent stale 2) (refused Unwritten 1)
     ∷ []
 

@@ -1,2 +1,2 @@
-mod Told
+mod Answers
 mod Borrowed

@@ -12,11 +12,11 @@ use registers::Registers;
 ghost use mathlib.Core.Path.{_≡_};
 ghost use mathlib.Core.List.{List, []};
 ghost use Rattle.address.specs.Address.{deviceAddress, memoryAddress};
-ghost use Rattle.memory.specs.Memory.{Memory, memoryOf};
+ghost use Rattle.memory.specs.Memory.{Memory};
 ghost use Rattle.emulator.specs.Calls.{powerOn, request, lookUp, deviceRead, deviceWrite, hostWrite, hostRead, invalidate, setRegister, readRegister, loadParts, saveParts, stop, start};
-ghost use Rattle.emulator.specs.Contract.{Meets, told, toldLocation};
-ghost use Rattle.parts.specs.Step.{stepAt};
-ghost use Rattle.capi.specs.Outcome.{toldBy, toldByFound, keptBy, stepBy};
+ghost use Rattle.emulator.specs.Contract.{lentMemory, leftMemory, remarkedMemory, told, toldLocation};
+ghost use Rattle.capi.specs.Structs.{success as succeeded, refusal as refused, answerStruct, foundStruct, noPart, keptBy};
+ghost use Rattle.capi.specs.Contract.{Returns, Tells, TellsAlone, Steps};
 
 // An answer: a result, or the number and the place of a refusal.
 #[repr(C)]
@@ -42,7 +42,8 @@ pub struct Found {
     pub rights: u32,
 }
 
-// One step over a stream of parts: a refusal; the end; or a part, whose value reaches from 16 bytes behind the step's place to `next`.
+// One step over a stream of parts: a refusal; the end; or a part, with the bounds of its value in the stream. `next` is the place of the
+// next step. Numbers that a step has no use for are 0.
 #[repr(C)]
 pub struct PartStep {
     pub refused: bool,
@@ -52,58 +53,67 @@ pub struct PartStep {
     pub kind: u16,
     pub flags: u8,
     pub selector: u64,
+    pub value_start: usize,
+    pub value_length: usize,
     pub next: usize,
 }
 
-// An answer as numbers; those that it has no use for are 0.
+fn success(result: u64) -> Outcome
+    ensures { λ r. ⌜ r ≡ succeeded result ⌝ }
+{
+    Outcome {
+        refused: false,
+        code: 0,
+        place: 0,
+        result,
+    }
+}
+
+fn refusal(code: u32, place: u64) -> Outcome
+    ensures { λ r. ⌜ r ≡ refused code place ⌝ }
+{
+    Outcome {
+        refused: true,
+        code,
+        place,
+        result: 0,
+    }
+}
+
 fn numbers(a: Answer) -> Outcome
-    ensures { λ r. ⌜ toldBy r ≡ told a ⌝ }
+    ensures { λ r. ⌜ r ≡ answerStruct (told a) ⌝ }
 {
     match a {
-        Answer::Done(result) => Outcome {
-            refused: false,
-            code: 0,
-            place: 0,
-            result,
-        },
-        Answer::Refused(code, place) => Outcome {
-            refused: true,
-            code,
-            place,
-            result: 0,
-        },
+        Answer::Done(result) => success(result),
+        Answer::Refused(code, place) => refusal(code, place),
     }
 }
 
 fn location(l: Location) -> Found
-    ensures { λ r. ⌜ toldByFound r ≡ toldLocation l ⌝ }
+    ensures { λ r. ⌜ r ≡ foundStruct (toldLocation l) ⌝ }
 {
     match l {
-        Location::At(address, rights) => Found {
-            outcome: Outcome {
-                refused: false,
-                code: 0,
-                place: 0,
-                result: 0,
-            },
-            address,
-            rights,
-        },
-        Location::Refused(code, place) => Found {
-            outcome: Outcome {
-                refused: true,
-                code,
-                place,
-                result: 0,
-            },
-            address: MemoryAddress(0),
-            rights: 0,
-        },
+        Location::At(address, rights) => {
+            let outcome = success(0);
+            Found {
+                outcome,
+                address,
+                rights,
+            }
+        }
+        Location::Refused(code, place) => {
+            let outcome = refusal(code, place);
+            Found {
+                outcome,
+                address: MemoryAddress(0),
+                rights: 0,
+            }
+        }
     }
 }
 
 fn with_state(r: Reply) -> Kept
-    ensures { λ k. ⌜ (toldBy (k .outcome) ≡ told (r .answer)) × (k .state ≡ r .state) ⌝ }
+    ensures { λ k. ⌜ (k .outcome ≡ answerStruct (told (r .answer))) × (k .state ≡ r .state) ⌝ }
 {
     let answer = r.answer;
     let state = r.state;
@@ -114,7 +124,7 @@ fn with_state(r: Reply) -> Kept
 // Fresh start.
 #[no_mangle]
 pub extern "C" fn glint_power_on(state: State, bytes: &[u8], shadow: &mut [u8]) -> Kept
-    ensures { λ r. ⌜ Meets powerOn [] state (memoryOf (now (bytes .entry)) (now (shadow .entry))) (toldBy (r .outcome)) [] (memoryOf (now (bytes .entry)) (now (shadow .exit))) (r .state) ⌝ }
+    ensures { λ r. ⌜ Tells powerOn [] state (lentMemory bytes shadow) (r .outcome) [] (remarkedMemory bytes shadow) (r .state) ⌝ }
 {
     with_state(emulator::power_on(state, bytes, shadow))
 }
@@ -129,7 +139,7 @@ pub extern "C" fn glint_request(
     number: u32,
     buf: &mut [u8],
 ) -> Kept
-    ensures { λ r. ⌜ Meets (request target number) (now (buf .entry)) state (memoryOf (now (bytes .entry)) (now (shadow .entry))) (toldBy (r .outcome)) (now (buf .exit)) (memoryOf (now (bytes .entry)) (now (shadow .entry))) (r .state) ⌝ }
+    ensures { λ r. ⌜ Tells (request target number) (now (buf .entry)) state (lentMemory bytes shadow) (r .outcome) (now (buf .exit)) (lentMemory bytes shadow) (r .state) ⌝ }
 {
     with_state(vfio::request(state, bytes, shadow, target, number, buf))
 }
@@ -137,7 +147,7 @@ pub extern "C" fn glint_request(
 // Look-up.
 #[no_mangle]
 pub extern "C" fn glint_look_up(state: State, device: u64) -> Found
-    ensures { λ r. ⌜ ((m : Memory) → Meets (lookUp (deviceAddress device)) [] state m (toldByFound r) [] m state) ⌝ }
+    ensures { λ r. ⌜ ((m : Memory) → Returns foundStruct (lookUp (deviceAddress device)) [] state m r [] m state) ⌝ }
 {
     location(emulator::look_up(state, DeviceAddress(device)))
 }
@@ -151,7 +161,7 @@ pub extern "C" fn glint_device_read(
     device: u64,
     buf: &mut [u8],
 ) -> Outcome
-    ensures { λ r. ⌜ Meets (deviceRead (deviceAddress device)) (now (buf .entry)) state (memoryOf (now (bytes .entry)) (now (shadow .entry))) (toldBy r) (now (buf .exit)) (memoryOf (now (bytes .entry)) (now (shadow .entry))) state ⌝ }
+    ensures { λ r. ⌜ Tells (deviceRead (deviceAddress device)) (now (buf .entry)) state (lentMemory bytes shadow) r (now (buf .exit)) (lentMemory bytes shadow) state ⌝ }
 {
     numbers(emulator::device_read(state, bytes, shadow, DeviceAddress(device), buf))
 }
@@ -165,7 +175,7 @@ pub extern "C" fn glint_device_write(
     device: u64,
     buf: &[u8],
 ) -> Outcome
-    ensures { λ r. ⌜ Meets (deviceWrite (deviceAddress device)) (now (buf .entry)) state (memoryOf (now (bytes .entry)) (now (shadow .entry))) (toldBy r) (now (buf .entry)) (memoryOf (now (bytes .exit)) (now (shadow .exit))) state ⌝ }
+    ensures { λ r. ⌜ Tells (deviceWrite (deviceAddress device)) (now (buf .entry)) state (lentMemory bytes shadow) r (now (buf .entry)) (leftMemory bytes shadow) state ⌝ }
 {
     numbers(emulator::device_write(state, bytes, shadow, DeviceAddress(device), buf))
 }
@@ -179,7 +189,7 @@ pub extern "C" fn glint_host_write(
     address: u64,
     buf: &[u8],
 ) -> Outcome
-    ensures { λ r. ⌜ Meets (hostWrite (memoryAddress address)) (now (buf .entry)) state (memoryOf (now (bytes .entry)) (now (shadow .entry))) (toldBy r) (now (buf .entry)) (memoryOf (now (bytes .exit)) (now (shadow .exit))) state ⌝ }
+    ensures { λ r. ⌜ Tells (hostWrite (memoryAddress address)) (now (buf .entry)) state (lentMemory bytes shadow) r (now (buf .entry)) (leftMemory bytes shadow) state ⌝ }
 {
     numbers(emulator::host_write(state, bytes, shadow, MemoryAddress(address), buf))
 }
@@ -193,7 +203,7 @@ pub extern "C" fn glint_host_read(
     address: u64,
     buf: &mut [u8],
 ) -> Outcome
-    ensures { λ r. ⌜ Meets (hostRead (memoryAddress address)) (now (buf .entry)) state (memoryOf (now (bytes .entry)) (now (shadow .entry))) (toldBy r) (now (buf .exit)) (memoryOf (now (bytes .entry)) (now (shadow .entry))) state ⌝ }
+    ensures { λ r. ⌜ Tells (hostRead (memoryAddress address)) (now (buf .entry)) state (lentMemory bytes shadow) r (now (buf .exit)) (lentMemory bytes shadow) state ⌝ }
 {
     numbers(emulator::host_read(state, bytes, shadow, MemoryAddress(address), buf))
 }
@@ -207,7 +217,7 @@ pub extern "C" fn glint_invalidate(
     address: u64,
     length: u64,
 ) -> Outcome
-    ensures { λ r. ⌜ Meets (invalidate (memoryAddress address) length) [] state (memoryOf (now (bytes .entry)) (now (shadow .entry))) (toldBy r) [] (memoryOf (now (bytes .entry)) (now (shadow .exit))) state ⌝ }
+    ensures { λ r. ⌜ Tells (invalidate (memoryAddress address) length) [] state (lentMemory bytes shadow) r [] (remarkedMemory bytes shadow) state ⌝ }
 {
     numbers(emulator::invalidate(state, bytes, shadow, MemoryAddress(address), length))
 }
@@ -215,7 +225,7 @@ pub extern "C" fn glint_invalidate(
 // Sets a register.
 #[no_mangle]
 pub extern "C" fn glint_set_register(state: State, kind: u64, selector: u64, value: &[u8]) -> Kept
-    ensures { λ r. ⌜ ((m : Memory) → Meets (setRegister kind selector) (now (value .entry)) state m (toldBy (r .outcome)) (now (value .entry)) m (r .state)) ⌝ }
+    ensures { λ r. ⌜ TellsAlone (setRegister kind selector) (now (value .entry)) state (r .outcome) (now (value .entry)) (r .state) ⌝ }
 {
     with_state(emulator::set_register(state, kind, selector, value))
 }
@@ -228,31 +238,31 @@ pub extern "C" fn glint_read_register(
     selector: u64,
     buf: &mut [u8],
 ) -> Outcome
-    ensures { λ r. ⌜ ((m : Memory) → Meets (readRegister kind selector) (now (buf .entry)) state m (toldBy r) (now (buf .exit)) m state) ⌝ }
+    ensures { λ r. ⌜ TellsAlone (readRegister kind selector) (now (buf .entry)) state r (now (buf .exit)) state ⌝ }
 {
     numbers(emulator::read_register(state, kind, selector, buf))
 }
 
 // What loading answers, and the registers to keep where it is success.
-struct Loaded {
+struct LoadReply {
     outcome: Outcome,
     registers: Registers,
 }
 
-fn load_parts(state: State, stream: &[u8]) -> Loaded
-    ensures { λ r. ⌜ ((m : Memory) → Meets loadParts (now (stream .entry)) state m (toldBy (r .outcome)) (now (stream .entry)) m (keptBy r state)) ⌝ }
+fn load_parts(state: State, stream: &[u8]) -> LoadReply
+    ensures { λ r. ⌜ TellsAlone loadParts (now (stream .entry)) state (r .outcome) (now (stream .entry)) (keptBy r state) ⌝ }
 {
     let loaded = emulator::load_registers(state, stream);
-    let answer = loaded.answer;
+    let verdict = loaded.verdict;
     let registers = loaded.registers;
-    let outcome = numbers(answer);
-    Loaded { outcome, registers }
+    let outcome = numbers(answer::settle(verdict, 0));
+    LoadReply { outcome, registers }
 }
 
 // Loads a stream of parts into a state where it stands: to hand it over and back would take longer than to load.
 #[no_mangle]
 pub extern "C" fn glint_load_parts_into(state: &mut State, stream: &[u8]) -> Outcome
-    ensures { λ r. ⌜ ((m : Memory) → Meets loadParts (now (stream .entry)) (now (state .entry)) m (toldBy r) (now (stream .entry)) m (now (state .exit))) ⌝ }
+    ensures { λ r. ⌜ TellsAlone loadParts (now (stream .entry)) (now (state .entry)) r (now (stream .entry)) (now (state .exit)) ⌝ }
 {
     let loaded = load_parts(*state, stream);
     if !loaded.outcome.refused {
@@ -262,7 +272,7 @@ pub extern "C" fn glint_load_parts_into(state: &mut State, stream: &[u8]) -> Out
 }
 
 fn save_parts(state: State, buf: &mut [u8]) -> Outcome
-    ensures { λ r. ⌜ ((m : Memory) → Meets saveParts (now (buf .entry)) state m (toldBy r) (now (buf .exit)) m state) ⌝ }
+    ensures { λ r. ⌜ TellsAlone saveParts (now (buf .entry)) state r (now (buf .exit)) state ⌝ }
 {
     numbers(emulator::save_parts(state, buf))
 }
@@ -270,7 +280,7 @@ fn save_parts(state: State, buf: &mut [u8]) -> Outcome
 // Saves the registers of a state, where it stands, as a stream of parts.
 #[no_mangle]
 pub extern "C" fn glint_save_parts_from(state: &State, buf: &mut [u8]) -> Outcome
-    ensures { λ r. ⌜ ((m : Memory) → Meets saveParts (now (buf .entry)) (now (state .entry)) m (toldBy r) (now (buf .exit)) m (now (state .entry))) ⌝ }
+    ensures { λ r. ⌜ TellsAlone saveParts (now (buf .entry)) (now (state .entry)) r (now (buf .exit)) (now (state .entry)) ⌝ }
 {
     save_parts(*state, buf)
 }
@@ -278,7 +288,7 @@ pub extern "C" fn glint_save_parts_from(state: &State, buf: &mut [u8]) -> Outcom
 // Stops the device.
 #[no_mangle]
 pub extern "C" fn glint_stop(state: State) -> Kept
-    ensures { λ r. ⌜ ((m : Memory) → Meets stop [] state m (toldBy (r .outcome)) [] m (r .state)) ⌝ }
+    ensures { λ r. ⌜ TellsAlone stop [] state (r .outcome) [] (r .state) ⌝ }
 {
     with_state(emulator::stop(state))
 }
@@ -286,15 +296,33 @@ pub extern "C" fn glint_stop(state: State) -> Kept
 // Starts the device.
 #[no_mangle]
 pub extern "C" fn glint_start(state: State) -> Kept
-    ensures { λ r. ⌜ ((m : Memory) → Meets start [] state m (toldBy (r .outcome)) [] m (r .state)) ⌝ }
+    ensures { λ r. ⌜ TellsAlone start [] state (r .outcome) [] (r .state) ⌝ }
 {
     with_state(emulator::start(state))
+}
+
+// A step that found no part: refused, or at the end. The walk goes on at `next`.
+fn no_part(refused: bool, code: u32, place: u64, next: usize) -> PartStep
+    ensures { λ r. ⌜ r ≡ noPart refused code place next ⌝ }
+{
+    PartStep {
+        refused,
+        end: !refused,
+        code,
+        place,
+        kind: 0,
+        flags: 0,
+        selector: 0,
+        value_start: 0,
+        value_length: 0,
+        next,
+    }
 }
 
 // A step of the walker over a stream.
 #[no_mangle]
 pub extern "C" fn glint_step(stream: &[u8], place: usize) -> PartStep
-    ensures { λ r. ⌜ stepBy r ≡ stepAt (now (stream .entry)) place ⌝ }
+    ensures { λ r. ⌜ Steps (now (stream .entry)) place r ⌝ }
 {
     let step = parts::step_at(stream, place);
     match step {
@@ -303,35 +331,22 @@ pub extern "C" fn glint_step(stream: &[u8], place: usize) -> PartStep
             flags,
             selector,
             next,
-        } => PartStep {
-            refused: false,
-            end: false,
-            code: 0,
-            place: 0,
-            kind,
-            flags,
-            selector,
-            next,
-        },
-        Step::End => PartStep {
-            refused: false,
-            end: true,
-            code: 0,
-            place: 0,
-            kind: 0,
-            flags: 0,
-            selector: 0,
-            next: place,
-        },
-        Step::Refused(code, at) => PartStep {
-            refused: true,
-            end: false,
-            code,
-            place: at,
-            kind: 0,
-            flags: 0,
-            selector: 0,
-            next: place,
-        },
+        } => {
+            let value_start = place + parts::HEADER_SIZE;
+            PartStep {
+                refused: false,
+                end: false,
+                code: 0,
+                place: 0,
+                kind,
+                flags,
+                selector,
+                value_start,
+                value_length: next - value_start,
+                next,
+            }
+        }
+        Step::End => no_part(false, 0, 0, place),
+        Step::Refused(code, at) => no_part(true, code, at, place),
     }
 }

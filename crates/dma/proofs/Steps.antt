@@ -14,7 +14,7 @@ use Rattle.answer.specs.Checks.{firstFault}
 use Rattle.answer.specs.declared.Verdict.{Verdict}
 use Rattle.answer.specs.declared.Verdict.the-variants.{Pass, Fail}
 use Rattle.answer.proofs.Checks.{firstFault-all, firstFault-pass, firstFault-at, firstFault-cong, firstFault-fault, passes-run, firstFault-run}
-use Rattle.wire.specs.Field.{part}
+use Rattle.wire.specs.Field.{slice}
 use Rattle.wire.proofs.Laws.{sets-all}
 use Rattle.address.specs.Address.{memoryAddress, deviceOffset}
 use Rattle.address.specs.declared.DeviceAddress.{DeviceAddress}
@@ -137,11 +137,11 @@ module _ {t : Table} {bytes : List ℕ} {d : DeviceAddress} {old buf : List ℕ}
     reading-past e = record { accepted = s .accepted; walk = walk-past (s .walk) more is e; long = s .long; rest = s .rest }
 
     pub reading-run : {a len : ℕ} → r ≡ Shows a len
-        → (new : List ℕ) → new ≡ sets buf k (part bytes a len) → Reading t bytes d old new (k + len) (i + 1)
+        → (new : List ℕ) → new ≡ sets buf k (slice bytes a len) → Reading t bytes d old new (k + len) (i + 1)
     reading-run {a} {len} e new stored = record {
       accepted = s .accepted;
       walk = walk-run (s .walk) more is e;
-      long = rw stored (length-sets buf k (part bytes a len) ∙ s .long);
+      long = rw stored (length-sets buf k (slice bytes a len) ∙ s .long);
       rest = λ shadow.
           rw stored
           (gather-more (inUse t) d k a len (run-shown (s .walk) more is e) (memoryOf bytes shadow) (length old) buf
@@ -182,7 +182,7 @@ module _ {t : Table} {d : DeviceAddress} {buf : List ℕ} {old new : Memory} {k 
     writing-past e = record { accepted = s .accepted; walk = walk-past (s .walk) more is e; bytes-long = s .bytes-long; shadow-long = s .shadow-long; rest = s .rest }
 
     pub writing-run : {a len : ℕ} → r ≡ Shows a len
-        → (next : Memory) → next ≡ edited (stores (memoryAddress a) (part buf k len)) new → Writing t d buf old next (k + len) (i + 1)
+        → (next : Memory) → next ≡ edited (stores (memoryAddress a) (slice buf k len)) new → Writing t d buf old next (k + len) (i + 1)
     writing-run {a} {len} e next stored = record {
       accepted = s .accepted;
       walk = walk-run (s .walk) more is e;

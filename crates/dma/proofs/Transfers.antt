@@ -16,7 +16,7 @@ use Rattle.answer.specs.Limits.{transferLimit, lengthCheck}
 use Rattle.answer.specs.declared.Verdict.{Verdict}
 use Rattle.answer.specs.declared.Verdict.the-variants.{Pass, Fail}
 use Rattle.answer.proofs.Checks.{never, then-pass, then-next, then-fail, when-true, when-false, unless-pass, unless-true, unless-false, firstFault-all, firstFault-pass, firstFault-at, firstFault-cong}
-use Rattle.wire.specs.Field.{part}
+use Rattle.wire.specs.Field.{slice}
 use Rattle.wire.proofs.Laws.{sets-all, sets-append, length-part}
 use Rattle.address.specs.Address.{deviceLimit, memoryAddress, memoryOffset, deviceOffset, inDeviceRange}
 use Rattle.address.specs.declared.DeviceAddress.{DeviceAddress}
@@ -144,7 +144,7 @@ module _ (ms : List Mapping) (d : DeviceAddress) (a n : ℕ) (run : Contiguous m
       rw (e, f) at (run (suc j) (omega arith))
 
 pub gather-run : (ms : List Mapping) (m : Memory) (d : DeviceAddress) (a n : ℕ) → Contiguous ms d a n → a + n ≤ length (m .bytes)
-    → gather ms m d n ≡ part (m .bytes) a n
+    → gather ms m d n ≡ slice (m .bytes) a n
 unfolding gather byteAt
 gather-run ms m d a zero run room = refl
 gather-run ms m d a (suc n) run room =
@@ -163,29 +163,29 @@ module _ (ms : List Mapping) (d : DeviceAddress) (k a len : ℕ) (run : Contiguo
   next = omega arith
 
   pub gather-more : (m : Memory) (n : ℕ) (buf : List ℕ) → k + len ≤ n → a + len ≤ length (m .bytes)
-      → sets (sets buf k (part (m .bytes) a len)) (k + len) (gather ms m (deviceOffset d (k + len)) (n - (k + len)))
+      → sets (sets buf k (slice (m .bytes) a len)) (k + len) (gather ms m (deviceOffset d (k + len)) (n - (k + len)))
       ≡ sets buf k (gather ms m (deviceOffset d k) (n - k))
   gather-more m n buf fits room =
       let e : n - k ≡ len + (n - (k + len)) = omega arith in
       rw (e, next, gather-append ms m (deviceOffset d k) len (n - (k + len)), gather-run ms m (deviceOffset d k) a len run room, sets-append, length-part (m .bytes) a len room)
 
   pub scatter-more : (m : Memory) (buf : List ℕ) → k + len ≤ length buf
-      → edited (scatter ms (deviceOffset d (k + len)) (drop (k + len) buf)) (edited (stores (memoryAddress a) (part buf k len)) m)
+      → edited (scatter ms (deviceOffset d (k + len)) (drop (k + len) buf)) (edited (stores (memoryAddress a) (slice buf k len)) m)
       ≡ edited (scatter ms (deviceOffset d k) (drop k buf)) m
   scatter-more m buf fits =
-      let e : length (part buf k len) ≡ len = length-part buf k len fits in
-      let split : drop k buf ≡ part buf k len ++ drop (k + len) buf =
-      sym (take-append-drop len (drop k buf)) ∙ ap (λ (rest : List ℕ). part buf k len ++ rest) (drop-drop len k buf) in
-      let first : scatter ms (deviceOffset d k) (part buf k len) ≡ stores (memoryAddress a) (part buf k len) =
-      scatter-run ms (deviceOffset d k) a (part buf k len) (rw e run) in
+      let e : length (slice buf k len) ≡ len = length-part buf k len fits in
+      let split : drop k buf ≡ slice buf k len ++ drop (k + len) buf =
+      sym (take-append-drop len (drop k buf)) ∙ ap (λ (rest : List ℕ). slice buf k len ++ rest) (drop-drop len k buf) in
+      let first : scatter ms (deviceOffset d k) (slice buf k len) ≡ stores (memoryAddress a) (slice buf k len) =
+      scatter-run ms (deviceOffset d k) a (slice buf k len) (rw e run) in
       sym (ap (λ (xs : List ℕ). edited (scatter ms (deviceOffset d k) xs) m) split ∙ rw (scatter-append, edited-append, first, e, next))
 
 -- a run that is the whole of a transfer
 module _ {ms : List Mapping} {d : DeviceAddress} {size at len : ℕ} (first : FirstRun ms d size at len) (buf : List ℕ) (whole : len ≡ length buf) where
-  pub gather-one : (m : Memory) → size ≡ length (m .bytes) → sets buf 0 (part (m .bytes) at len) ≡ gather ms m d (length buf)
+  pub gather-one : (m : Memory) → size ≡ length (m .bytes) → sets buf 0 (slice (m .bytes) at len) ≡ gather ms m d (length buf)
   gather-one m level =
       let room : at + len ≤ length (m .bytes) = omega (arith, first .room) in
       rw (← whole, ← gather-run ms m d at len (first .shows) room) (sets-all buf _ (gather-length ms m d len ∙ whole))
 
-  pub scatter-one : scatter ms d buf ≡ stores (memoryAddress at) (part buf 0 len)
+  pub scatter-one : scatter ms d buf ≡ stores (memoryAddress at) (slice buf 0 len)
   scatter-one = rw (whole, take-length buf) (scatter-run ms d at buf (rw whole at (first .shows)))

@@ -1,4 +1,4 @@
--- Device reads and writes: document 01's card read and card write ("Moving bytes"), offset by offset.
+-- Device reads and writes, offset by offset (rules 4.3 to 4.6).
 use Prim.Native.Nat.{ℕ, zero, suc}
 use mathlib.Core.List.{List, [], _∷_}
 use Rattle.answer.specs.Codes.{Range, Unmapped, NoRight}
@@ -16,7 +16,7 @@ use Rattle.iommu.specs.declared.Translation.the-variants.{At, Nowhere}
 use Rattle.memory.specs.Memory.{Memory, Edit, put, byteAt}
 use Rattle.memory.specs.Transfers.{unwrittenAt}
 
--- what is wrong with one byte: "trying 14, 15 (READ to read, WRITE to write), and for a read 16"
+-- rule 4.3, what is wrong with one byte: 14, then 15, then for a read 16
 unfoldable pub readFault : List ℕ → Translation → Verdict
 readFault shadow Nowhere = Fail Unmapped 0
 readFault shadow (At a rights) =
@@ -27,7 +27,7 @@ unfoldable pub writeFault : Translation → Verdict
 writeFault Nowhere = Fail Unmapped 0
 writeFault (At a rights) = NoRight unless writable rights
 
--- "Checks: 13, 9 (address + length over 2^48), then each offset in order"
+-- rule 4.3: 13, 9, then each offset in order tries its own; the first fault decides. A length of 0 has no offset to try (rule 4.10).
 unfoldable pub transferChecks : (Translation → Verdict) → List Mapping → DeviceAddress → ℕ → Verdict
 transferChecks fault ms d n =
     lengthCheck n
@@ -45,12 +45,12 @@ unfoldable pub location : Translation → MemoryAddress
 location (At a rights) = a
 location Nowhere = memoryAddress 0
 
--- the `n` bytes of memory that the device addresses from `d` on show
+-- rule 4.5: the `n` bytes of memory that the device addresses from `d` on show, in however many mappings (rule 4.4)
 unfoldable pub gather : List Mapping → Memory → DeviceAddress → ℕ → List ℕ
 gather ms m d zero = []
 gather ms m d (suc n) = byteAt m (location (translate ms d)) ∷ gather ms m (deviceOffset d 1) n
 
--- the bytes `xs` stored "in offset order", each where the mappings show its device address
+-- rule 4.6: the bytes `xs` stored in the order of their offsets, each where the mappings show its device address
 unfoldable pub scatter : List Mapping → DeviceAddress → List ℕ → List Edit
 scatter ms d [] = []
 scatter ms d (x ∷ xs) = put (location (translate ms d)) x ∷ scatter ms (deviceOffset d 1) xs

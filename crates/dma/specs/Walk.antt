@@ -36,7 +36,7 @@ pub record FirstRun (ms : List Mapping) (d : DeviceAddress) (size at len : ℕ) 
   pub room : at + len ≤ size
   pub shows : Contiguous ms d at len
 
--- what a mapping shows of the `n` device addresses from `d` on: nothing, since it begins past `d` or ends before it; or the
+-- what a mapping shows of the `n` device addresses from `d` on (rule 4.4): nothing, since it begins past `d` or ends before it; or the
 -- first of them, up to its end
 unfoldable pub runIn : Mapping → DeviceAddress → ℕ → Run
 runIn m d n =

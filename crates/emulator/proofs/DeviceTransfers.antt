@@ -16,7 +16,7 @@ use Rattle.dma.proofs.Gather.{gather-length}
 use Rattle.emulator.specs.Machine.{both, usable, emulatorOf, machineOf}
 use Rattle.emulator.specs.Effect.{value, filled}
 use Rattle.emulator.specs.Calls.{deviceRead, deviceWrite, given, ownChecks, effect}
-use Rattle.emulator.specs.Contract.{writes, written, Meets}
+use Rattle.emulator.specs.Contract.{writes, stateWith, Meets}
 use Rattle.emulator.specs.declared.State.{State}
 use Rattle.emulator.proofs.Meets.{refused-by, accepted}
 use Rattle.emulator.proofs.Soundness.{ready}
@@ -44,7 +44,7 @@ module _ (d : DeviceAddress) (buf : List ℕ) (s : State) (m : Memory) (good : u
 
   pub read-done : (out : List ℕ) → deviceReadChecks (inUse (s .table)) (m .shadow) d (length buf) ≡ Pass → out ≡ gather (inUse (s .table)) m d (length buf)
       → Meets (deviceRead d) buf s m (done (value 0)) out m s
-  unfolding given ownChecks effect emulatorOf machineOf writes written filled edited
+  unfolding given ownChecks effect emulatorOf machineOf writes stateWith filled edited
   read-done out e f =
       accepted (deviceRead d) buf s m out m s good e (f ∙ sym (sets-all buf _ (gather-length (inUse (s .table)) m d (length buf)))) refl refl
 
@@ -55,5 +55,5 @@ module _ (d : DeviceAddress) (buf : List ℕ) (s : State) (m : Memory) (good : u
 
   pub write-done : (m′ : Memory) → deviceWriteChecks (inUse (s .table)) d (length buf) ≡ Pass → m′ ≡ edited (scatter (inUse (s .table)) d buf) m
       → Meets (deviceWrite d) buf s m (done (value 0)) buf m′ s
-  unfolding given ownChecks effect emulatorOf machineOf writes written filled
+  unfolding given ownChecks effect emulatorOf machineOf writes stateWith filled
   write-done m′ e f = accepted (deviceWrite d) buf s m buf m′ s good e refl f refl

@@ -10,14 +10,14 @@ use Rattle.answer.specs.Answer.{done, refused}
 use Rattle.answer.specs.declared.Verdict.{Verdict}
 use Rattle.answer.specs.declared.Verdict.the-variants.{Pass, Fail}
 use Rattle.address.specs.declared.MemoryAddress.{MemoryAddress}
-use Rattle.wire.specs.Field.{part}
+use Rattle.wire.specs.Field.{slice}
 use Rattle.memory.specs.Memory.{Memory, edited, stores, clears, bytesFrom}
 use Rattle.memory.specs.Transfers.{hostWriteChecks, hostReadChecks, invalidateChecks}
 use Rattle.memory.proofs.Transfers.{invalidate-room, host-write-room, host-read-room}
 use Rattle.emulator.specs.Machine.{both, usable, emulatorOf}
 use Rattle.emulator.specs.Effect.{value, filled}
 use Rattle.emulator.specs.Calls.{hostWrite, hostRead, invalidate, given, ownChecks, effect}
-use Rattle.emulator.specs.Contract.{writes, written, Meets}
+use Rattle.emulator.specs.Contract.{writes, stateWith, Meets}
 use Rattle.emulator.specs.declared.State.{State}
 use Rattle.emulator.proofs.Meets.{refused-by, accepted}
 use Rattle.emulator.proofs.Soundness.{Ready, ready}
@@ -41,9 +41,9 @@ module _ (a : MemoryAddress) (buf : List ℕ) (s : State) (m : Memory) (good : u
   unfolding given ownChecks emulatorOf
   write-refused code place e = refused-by (hostWrite a) buf s m code place good e
 
-  pub write-done : (m′ : Memory) → hostWriteChecks (length (m .bytes)) a (length buf) ≡ Pass → m′ ≡ edited (stores a (part buf 0 (length buf))) m
+  pub write-done : (m′ : Memory) → hostWriteChecks (length (m .bytes)) a (length buf) ≡ Pass → m′ ≡ edited (stores a (slice buf 0 (length buf))) m
       → Meets (hostWrite a) buf s m (done (value 0)) buf m′ s
-  unfolding given ownChecks effect emulatorOf writes written filled
+  unfolding given ownChecks effect emulatorOf writes stateWith filled
   write-done m′ e f = accepted (hostWrite a) buf s m buf m′ s good e refl (f ∙ ap (λ (l : List ℕ). edited (stores a l) m) (take-length buf)) refl
 
   -- ---- host load
@@ -57,9 +57,9 @@ module _ (a : MemoryAddress) (buf : List ℕ) (s : State) (m : Memory) (good : u
   unfolding given ownChecks emulatorOf
   read-refused code place e = refused-by (hostRead a) buf s m code place good (same-checks ∙ e)
 
-  pub read-done : (out : List ℕ) → hostReadChecks (length (m .shadow)) (m .shadow) a (length buf) ≡ Pass → out ≡ sets buf 0 (part (m .bytes) (a .0) (length buf))
+  pub read-done : (out : List ℕ) → hostReadChecks (length (m .shadow)) (m .shadow) a (length buf) ≡ Pass → out ≡ sets buf 0 (slice (m .bytes) (a .0) (length buf))
       → Meets (hostRead a) buf s m (done (value 0)) out m s
-  unfolding given ownChecks effect emulatorOf writes written filled edited bytesFrom
+  unfolding given ownChecks effect emulatorOf writes stateWith filled edited bytesFrom
   read-done out e f = accepted (hostRead a) buf s m out m s good (same-checks ∙ e) f refl refl
 
 -- ---- forget
@@ -70,5 +70,5 @@ module _ (a : MemoryAddress) (n : ℕ) (s : State) (m : Memory) (good : usable b
   clear-refused code place e = refused-by (invalidate a n) [] s m code place good e
 
   pub clear-done : (m′ : Memory) → invalidateChecks (length (m .bytes)) a n ≡ Pass → m′ ≡ edited (clears a n) m → Meets (invalidate a n) [] s m (done (value 0)) [] m′ s
-  unfolding given ownChecks effect emulatorOf writes written filled
+  unfolding given ownChecks effect emulatorOf writes stateWith filled
   clear-done m′ e f = accepted (invalidate a n) [] s m [] m′ s good e refl f refl

@@ -17,17 +17,17 @@ use Rattle.registers.specs.declared.Registers.{Registers}
 use Rattle.emulator.specs.Machine.{lendable, usable, emulatorOf, poweredOn}
 use Rattle.emulator.specs.Effect.{value, filled}
 use Rattle.emulator.specs.Calls.{powerOn, given, ownChecks, effect}
-use Rattle.emulator.specs.Contract.{writes, written, Meets}
+use Rattle.emulator.specs.Contract.{writes, stateWith, Meets}
 use Rattle.emulator.specs.declared.State.{State}
 use Rattle.emulator.proofs.Meets.{accepted}
 
 pub power-done : (s : State) (m m′ : Memory) (r : Registers) → lendable m ≡ true → r .slots ≡ slotsOf reset
     → m′ ≡ edited (clears (memoryAddress 0) (length (m .shadow))) m
     → Meets powerOn [] s m (done (value 0)) [] m′
-    (record { «memory_length» = length (m .bytes); table = record { entries = s .table .entries; count = 0 }; registers = r; running = false })
-unfolding given ownChecks effect usable emulatorOf writes written filled holding poweredOn lendable shadowLength
+    (record { «memory_length» = length (m .bytes); table = record { entries = s .table .entries; count = 0 }; registers = r; running = 0 })
+unfolding given ownChecks effect usable emulatorOf writes stateWith filled holding poweredOn lendable shadowLength
 power-done s m m′ r good e f =
     let level : length (m .shadow) ≡ length (m .bytes) = eqb-true _ _ (and-true _ _ good .0) in
     accepted powerOn [] s m [] m′ _ good refl refl
     (f ∙ ap (λ (n : ℕ). edited (clears (memoryAddress 0) n) m) level)
-    (ap (λ (l : List Register). record { «memory_length» = length (m .bytes); table = record { entries = s .table .entries; count = 0 }; registers = record { slots = l }; running = false }) e)
+    (ap (λ (l : List Register). record { «memory_length» = length (m .bytes); table = record { entries = s .table .entries; count = 0 }; registers = record { slots = l }; running = 0 }) e)

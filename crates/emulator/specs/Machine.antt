@@ -1,10 +1,10 @@
--- The emulator between calls: document 01's bench, its kept state, and refusal 1.
+-- The emulator between calls: memory with its marks, the kept state (rule 1.11), and refusal 1 (rule 2.6).
 use Prim.Native.Nat.{ℕ}
 use mathlib.Core.Bool.{Bool, false}
 use mathlib.Core.List.{List, []}
 use lib.ListN.{length}
 use lib.Dec.{leb, eqb}
-use Rattle.answer.specs.Tests.{_and_}
+use Rattle.answer.specs.Tests.{_and_, flagged}
 use Rattle.address.specs.Address.{memoryLimit}
 use Rattle.iommu.specs.Table.{capacity, soundTable, inUse}
 use Rattle.iommu.specs.declared.Mapping.{Mapping}
@@ -13,7 +13,7 @@ use Rattle.memory.specs.Memory.{Memory}
 use Rattle.registers.specs.File.{File, reset, soundFile, fileOf}
 use Rattle.emulator.specs.declared.State.{State}
 
--- What the kept state means: "Entries past the count and values of unset registers mean nothing". `mappings` are the entries in use,
+-- What the kept state means: no entry past the count and no value of an unset register (rule 1.13). `mappings` are the entries in use,
 -- which are `count` where the state is sound; `memoryLength` is the noted length.
 pub record Machine : Type 0 where
   pub memoryLength : ℕ
@@ -22,12 +22,12 @@ pub record Machine : Type 0 where
   pub registers : File
   pub running : Bool
 
--- the bench: memory with its marks, and the kept state
+-- memory with its marks, and the kept state
 pub record Emulator : Type 0 where
   pub memory : Memory
   pub machine : Machine
 
--- what the code's state means
+-- what the code's state means (rule 1.14 for the flag)
 unfoldable pub machineOf : State → Machine
 machineOf s =
     record {
@@ -35,7 +35,7 @@ machineOf s =
       count = s .table .count;
       mappings = inUse (s .table);
       registers = fileOf (s .registers);
-      running = s .running;
+      running = flagged (s .running);
     }
 
 -- the emulator that lent memory makes with the code's state
@@ -44,33 +44,33 @@ emulatorOf s m = record { memory = m; machine = machineOf s }
 
 -- ---- soundness, in named pieces
 
--- "it holds at most 64 mappings, rising, apart, each aligned, not empty, with rights 1 to 3, below 2^48 and inside the noted length"
+-- rule 1.12: at most 64 mappings, in order and apart, each of them sound with the noted length
 unfoldable pub soundMappings : Machine → Bool
 soundMappings k = leb (k .count) capacity and soundTable (k .memoryLength) (k .mappings)
 
--- "the noted length (at most 2^30)"
+-- rule 1.12: the noted length is at most 2^30, whatever the table holds
 unfoldable pub soundLength : Machine → Bool
 soundLength k = leb (k .memoryLength) memoryLimit
 
--- "A kept state is sound if ..."
+-- rule 1.12, whole
 unfoldable pub sound : Machine → Bool
 sound k = soundLength k and soundMappings k and soundFile (k .registers)
 
 -- ---- refusal 1, on what a call is given
 
--- not "memory and marks differ in length, exceed 2^30"
+-- rules 1.3 and 2.6: there are as many marks as bytes, and at most 2^30
 unfoldable pub lendable : Memory → Bool
 lendable m = eqb (length (m .shadow)) (shadowLength (length (m .bytes))) and leb (length (m .bytes)) memoryLimit
 
--- not "have not the noted length"
+-- rule 2.6: memory has the noted length
 unfoldable pub asNoted : Emulator → Bool
 asNoted e = eqb (length (e .memory .bytes)) (e .machine .memoryLength)
 
--- what a call is given: "Requests, moves, forget and fresh start take memory and marks"; all but a fresh start take the kept state
+-- rule 2.7: what a call is given: memory with its marks, the kept state, or both
 pub data Given : Type 0 where
   memoryAlone stateAlone both : Given
 
--- "Every call tries 1 first, on what it is given."
+-- rule 2.6: whether 1 passes, on what a call is given
 unfoldable pub usable : Given → Emulator → Bool
 usable memoryAlone e = lendable (e .memory)
 usable stateAlone e = sound (e .machine)
@@ -78,7 +78,7 @@ usable both e = lendable (e .memory) and asNoted e and sound (e .machine)
 
 -- ---- states that calls leave
 
--- "an empty table and a card stopped and reset", and the memory's length noted
+-- rule 1.10: the state that power on leaves, of which nothing comes from the old one
 unfoldable pub poweredOn : ℕ → Machine
 poweredOn n = record { memoryLength = n; count = 0; mappings = []; registers = reset; running = false }
 

@@ -1,45 +1,44 @@
-// The emulator: every call of document 01. None asks anything of its caller; each contract determines the answer, every lent byte and
-// the state that is returned.
+// The emulator: every call but requests. None asks anything of its caller (rule 8.1); each contract determines the answer, every lent byte
+// and the state that is returned (rule 8.2).
 use address::DeviceAddress;
 use address::MemoryAddress;
 use answer::Answer;
 use answer::Verdict;
 use iommu::Table;
 use iommu::Translation;
+use parts::Loaded;
 use registers::Registers;
 ghost use mathlib.Core.Path.{_≡_};
 ghost use mathlib.Core.List.{List, []};
 ghost use Prim.Native.Nat.{ℕ};
 ghost use lib.Dec.{leb};
-ghost use Rattle.answer.specs.Tests.{_and_};
+ghost use Rattle.answer.specs.Tests.{_and_, flagByte};
 ghost use Rattle.address.specs.Address.{memoryLimit};
 ghost use Rattle.iommu.specs.Table.{capacity, soundTable, inUse};
-ghost use Rattle.memory.specs.Memory.{Memory, memoryOf};
+ghost use Rattle.parts.specs.Load.{loadedOf};
 ghost use Rattle.emulator.specs.Machine.{machineOf, emulatorOf, both, sound as soundMachine, lendable as canLend, usable as canUse};
-ghost use Rattle.emulator.specs.Calls.{powerOn, lookUp, deviceRead, deviceWrite, hostWrite, hostRead, setRegister, readRegister, loadParts, saveParts};
+ghost use Rattle.emulator.specs.Calls.{powerOn, lookUp, deviceRead, deviceWrite, hostWrite, hostRead, setRegister, readRegister, loadParts, saveParts, loadOn};
 ghost use Rattle.emulator.specs.Calls as calls;
-ghost use Rattle.emulator.specs.Contract.{Meets, told, toldLocation, runCall, keeping, withRegistersIn, withRunningIn};
+ghost use Rattle.emulator.specs.Contract.{Meets, MeetsAlone, lentMemory, leftMemory, remarkedMemory, told, toldLocation, runCall, withRegistersIn, withRunningIn};
 
 // The state that a caller keeps between calls: the length of memory noted at power on, the mapping table, the device's registers and
-// whether the device runs. Any values may stand in it: each call says whether they make a sound state.
+// whether the device runs: it does where `running` is 1, and no other value of that byte says so. Any values may stand in the state:
+// each call says whether they make a sound one.
 #[repr(C)]
 pub struct State {
     pub memory_length: u64,
     pub table: Table,
     pub registers: Registers,
-    pub running: bool,
+    pub running: u8,
 }
+
+// What the byte `running` of a state holds where the device runs.
+const RUNNING: u8 = 1;
 
 // An answer, and the state to keep.
 pub struct Reply {
     pub answer: Answer,
     pub state: State,
-}
-
-// An answer, and the registers to keep where it is success.
-pub struct Loaded {
-    pub answer: Answer,
-    pub registers: Registers,
 }
 
 // What look-up answers: memory address and rights, or a refusal's number and place.
@@ -72,7 +71,7 @@ pub fn sound(state: State) -> bool
 
 // Whether memory and marks, by their lengths, can be lent.
 fn lendable(bytes: &[u8], shadow: &[u8]) -> bool
-    ensures { λ r. ⌜ r ≡ canLend (memoryOf (now (bytes .entry)) (now (shadow .entry))) ⌝ }
+    ensures { λ r. ⌜ r ≡ canLend (lentMemory bytes shadow) ⌝ }
 {
     if shadow.len() != bytes.len() {
         return false;
@@ -82,7 +81,7 @@ fn lendable(bytes: &[u8], shadow: &[u8]) -> bool
 
 // Whether a call that is given memory, marks and state may use them.
 pub fn usable(state: State, bytes: &[u8], shadow: &[u8]) -> bool
-    ensures { λ r. ⌜ r ≡ canUse both (emulatorOf state (memoryOf (now (bytes .entry)) (now (shadow .entry)))) ⌝ }
+    ensures { λ r. ⌜ r ≡ canUse both (emulatorOf state (lentMemory bytes shadow)) ⌝ }
 {
     if !lendable(bytes, shadow) {
         return false;
@@ -95,7 +94,7 @@ pub fn usable(state: State, bytes: &[u8], shadow: &[u8]) -> bool
 
 // Fresh start: all marks cleared, memory left as it is, its length noted; an empty table, and the device stopped and reset.
 pub fn power_on(state: State, bytes: &[u8], shadow: &mut [u8]) -> Reply
-    ensures { λ r. ⌜ Meets powerOn [] state (memoryOf (now (bytes .entry)) (now (shadow .entry))) (told (r .answer)) [] (memoryOf (now (bytes .entry)) (now (shadow .exit))) (r .state) ⌝ }
+    ensures { λ r. ⌜ Meets powerOn [] state (lentMemory bytes shadow) (told (r .answer)) [] (remarkedMemory bytes shadow) (r .state) ⌝ }
 {
     if !lendable(bytes, shadow) {
         return Reply {
@@ -110,7 +109,7 @@ pub fn power_on(state: State, bytes: &[u8], shadow: &mut [u8]) -> Reply
     next.table.count = 0;
     let registers = registers::reset();
     next.registers = registers;
-    next.running = false;
+    next.running = 0;
     Reply {
         answer: Answer::Done(0),
         state: next,
@@ -119,7 +118,7 @@ pub fn power_on(state: State, bytes: &[u8], shadow: &mut [u8]) -> Reply
 
 // Look-up: where a device address lies in memory, and with which rights.
 pub fn look_up(state: State, d: DeviceAddress) -> Location
-    ensures { λ r. ⌜ ((m : Memory) → Meets (lookUp d) [] state m (toldLocation r) [] m state) ⌝ }
+    ensures { λ r. ⌜ MeetsAlone (lookUp d) [] state (toldLocation r) [] state ⌝ }
 {
     if !sound(state) {
         return Location::Refused(answer::BAD_BENCH, 0);
@@ -143,7 +142,7 @@ pub fn host_write(
     a: MemoryAddress,
     buf: &[u8],
 ) -> Answer
-    ensures { λ r. ⌜ Meets (hostWrite a) (now (buf .entry)) state (memoryOf (now (bytes .entry)) (now (shadow .entry))) (told r) (now (buf .entry)) (memoryOf (now (bytes .exit)) (now (shadow .exit))) state ⌝ }
+    ensures { λ r. ⌜ Meets (hostWrite a) (now (buf .entry)) state (lentMemory bytes shadow) (told r) (now (buf .entry)) (leftMemory bytes shadow) state ⌝ }
 {
     if !usable(state, bytes, shadow) {
         return Answer::Refused(answer::BAD_BENCH, 0);
@@ -168,7 +167,7 @@ pub fn host_read(
     a: MemoryAddress,
     buf: &mut [u8],
 ) -> Answer
-    ensures { λ r. ⌜ Meets (hostRead a) (now (buf .entry)) state (memoryOf (now (bytes .entry)) (now (shadow .entry))) (told r) (now (buf .exit)) (memoryOf (now (bytes .entry)) (now (shadow .entry))) state ⌝ }
+    ensures { λ r. ⌜ Meets (hostRead a) (now (buf .entry)) state (lentMemory bytes shadow) (told r) (now (buf .exit)) (lentMemory bytes shadow) state ⌝ }
 {
     if !usable(state, bytes, shadow) {
         return Answer::Refused(answer::BAD_BENCH, 0);
@@ -193,7 +192,7 @@ pub fn device_read(
     d: DeviceAddress,
     buf: &mut [u8],
 ) -> Answer
-    ensures { λ r. ⌜ Meets (deviceRead d) (now (buf .entry)) state (memoryOf (now (bytes .entry)) (now (shadow .entry))) (told r) (now (buf .exit)) (memoryOf (now (bytes .entry)) (now (shadow .entry))) state ⌝ }
+    ensures { λ r. ⌜ Meets (deviceRead d) (now (buf .entry)) state (lentMemory bytes shadow) (told r) (now (buf .exit)) (lentMemory bytes shadow) state ⌝ }
 {
     if !usable(state, bytes, shadow) {
         return Answer::Refused(answer::BAD_BENCH, 0);
@@ -218,7 +217,7 @@ pub fn device_write(
     d: DeviceAddress,
     buf: &[u8],
 ) -> Answer
-    ensures { λ r. ⌜ Meets (deviceWrite d) (now (buf .entry)) state (memoryOf (now (bytes .entry)) (now (shadow .entry))) (told r) (now (buf .entry)) (memoryOf (now (bytes .exit)) (now (shadow .exit))) state ⌝ }
+    ensures { λ r. ⌜ Meets (deviceWrite d) (now (buf .entry)) state (lentMemory bytes shadow) (told r) (now (buf .entry)) (leftMemory bytes shadow) state ⌝ }
 {
     if !usable(state, bytes, shadow) {
         return Answer::Refused(answer::BAD_BENCH, 0);
@@ -237,7 +236,7 @@ pub fn device_write(
 
 // Forget: the marks of `n` bytes from `a` on are cleared; the bytes stay.
 pub fn invalidate(state: State, bytes: &[u8], shadow: &mut [u8], a: MemoryAddress, n: u64) -> Answer
-    ensures { λ r. ⌜ Meets (calls.invalidate a n) [] state (memoryOf (now (bytes .entry)) (now (shadow .entry))) (told r) [] (memoryOf (now (bytes .entry)) (now (shadow .exit))) state ⌝ }
+    ensures { λ r. ⌜ Meets (calls.invalidate a n) [] state (lentMemory bytes shadow) (told r) [] (remarkedMemory bytes shadow) state ⌝ }
 {
     if !usable(state, bytes, shadow) {
         return Answer::Refused(answer::BAD_BENCH, 0);
@@ -254,7 +253,7 @@ pub fn invalidate(state: State, bytes: &[u8], shadow: &mut [u8], a: MemoryAddres
 
 // Sets the register of a type and a selector number to the value `v`.
 pub fn set_register(state: State, kind: u64, selector: u64, v: &[u8]) -> Reply
-    ensures { λ r. ⌜ ((m : Memory) → Meets (setRegister kind selector) (now (v .entry)) state m (told (r .answer)) (now (v .entry)) m (r .state)) ⌝ }
+    ensures { λ r. ⌜ MeetsAlone (setRegister kind selector) (now (v .entry)) state (told (r .answer)) (now (v .entry)) (r .state) ⌝ }
 {
     if !sound(state) {
         return Reply {
@@ -281,7 +280,7 @@ pub fn set_register(state: State, kind: u64, selector: u64, v: &[u8]) -> Reply
 
 // Reads the register of a type and a selector number: its value goes to the buffer's start, and its length is the result.
 pub fn read_register(state: State, kind: u64, selector: u64, buf: &mut [u8]) -> Answer
-    ensures { λ r. ⌜ ((m : Memory) → Meets (readRegister kind selector) (now (buf .entry)) state m (told r) (now (buf .exit)) m state) ⌝ }
+    ensures { λ r. ⌜ MeetsAlone (readRegister kind selector) (now (buf .entry)) state (told r) (now (buf .exit)) state ⌝ }
 {
     if !sound(state) {
         return Answer::Refused(answer::BAD_BENCH, 0);
@@ -297,50 +296,39 @@ pub fn read_register(state: State, kind: u64, selector: u64, buf: &mut [u8]) -> 
     }
 }
 
-// What loading a stream of parts answers, and the registers that were loaded: those named take their values, all others become unset.
+// What loading a stream of parts comes to, and the registers that were loaded: those named take their values, all others become unset;
+// where it is refused none of them is set.
 // Soundness is asked piece by piece, here and in saving: a call with the whole state would copy it.
 pub fn load_registers(state: State, stream: &[u8]) -> Loaded
-    ensures { λ r. ⌜ ((m : Memory) → Meets loadParts (now (stream .entry)) state m (told (r .answer)) (now (stream .entry)) m (keeping (r .answer) (r .registers) state)) ⌝ }
+    ensures { λ r. ⌜ r ≡ loadedOf (loadOn (machineOf state) (now (stream .entry))) ⌝ }
 {
     let table = state.table;
     let registers = state.registers;
     if !sound_mappings(state.memory_length, table) || !registers::sound(registers) {
         let none = registers::blank();
         return Loaded {
-            answer: Answer::Refused(answer::BAD_BENCH, 0),
+            verdict: Verdict::Fail(answer::BAD_BENCH, 0),
             registers: none,
         };
     }
-    let loaded = parts::load(state.running, stream);
-    let next = loaded.registers;
-    let verdict = loaded.verdict;
-    match verdict {
-        Verdict::Fail(code, place) => Loaded {
-            answer: Answer::Refused(code, place),
-            registers: next,
-        },
-        Verdict::Pass => Loaded {
-            answer: Answer::Done(0),
-            registers: next,
-        },
-    }
+    parts::load(state.running == RUNNING, stream)
 }
 
 // Loads a stream of parts.
 pub fn load_parts(state: State, stream: &[u8]) -> Reply
-    ensures { λ r. ⌜ ((m : Memory) → Meets loadParts (now (stream .entry)) state m (told (r .answer)) (now (stream .entry)) m (r .state)) ⌝ }
+    ensures { λ r. ⌜ MeetsAlone loadParts (now (stream .entry)) state (told (r .answer)) (now (stream .entry)) (r .state) ⌝ }
 {
     let loaded = load_registers(state, stream);
-    let answer = loaded.answer;
-    match answer {
-        Answer::Refused(code, place) => Reply {
+    let verdict = loaded.verdict;
+    match verdict {
+        Verdict::Fail(code, place) => Reply {
             answer: Answer::Refused(code, place),
             state,
         },
-        Answer::Done(result) => {
+        Verdict::Pass => {
             let registers = loaded.registers;
             Reply {
-                answer: Answer::Done(result),
+                answer: Answer::Done(0),
                 state: with_registers(state, registers),
             }
         }
@@ -349,14 +337,14 @@ pub fn load_parts(state: State, stream: &[u8]) -> Reply
 
 // Saves the registers as a stream of parts at the buffer's start; its length is the result.
 pub fn save_parts(state: State, buf: &mut [u8]) -> Answer
-    ensures { λ r. ⌜ ((m : Memory) → Meets saveParts (now (buf .entry)) state m (told r) (now (buf .exit)) m state) ⌝ }
+    ensures { λ r. ⌜ MeetsAlone saveParts (now (buf .entry)) state (told r) (now (buf .exit)) state ⌝ }
 {
     let table = state.table;
     let registers = state.registers;
     if !sound_mappings(state.memory_length, table) || !registers::sound(registers) {
         return Answer::Refused(answer::BAD_BENCH, 0);
     }
-    let verdict = parts::check_save(registers, state.running, buf.len());
+    let verdict = parts::check_save(registers, state.running == RUNNING, buf.len());
     match verdict {
         Verdict::Fail(code, place) => Answer::Refused(code, place),
         Verdict::Pass => {
@@ -375,16 +363,16 @@ fn with_registers(state: State, registers: Registers) -> State
 }
 
 fn with_running(state: State, running: bool) -> State
-    ensures { λ r. ⌜ r ≡ withRunningIn running state ⌝ }
+    ensures { λ r. ⌜ r ≡ withRunningIn (flagByte running) state ⌝ }
 {
     let mut next = state;
-    next.running = running;
+    next.running = running as u8;
     next
 }
 
 // Stop and start set the running state, whatever it was.
 fn set_running(state: State, running: bool) -> Reply
-    ensures { λ r. ⌜ ((m : Memory) → Meets (runCall running) [] state m (told (r .answer)) [] m (r .state)) ⌝ }
+    ensures { λ r. ⌜ MeetsAlone (runCall running) [] state (told (r .answer)) [] (r .state) ⌝ }
 {
     if !sound(state) {
         return Reply {
@@ -399,13 +387,13 @@ fn set_running(state: State, running: bool) -> Reply
 }
 
 pub fn stop(state: State) -> Reply
-    ensures { λ r. ⌜ ((m : Memory) → Meets calls.stop [] state m (told (r .answer)) [] m (r .state)) ⌝ }
+    ensures { λ r. ⌜ MeetsAlone calls.stop [] state (told (r .answer)) [] (r .state) ⌝ }
 {
     set_running(state, false)
 }
 
 pub fn start(state: State) -> Reply
-    ensures { λ r. ⌜ ((m : Memory) → Meets calls.start [] state m (told (r .answer)) [] m (r .state)) ⌝ }
+    ensures { λ r. ⌜ MeetsAlone calls.start [] state (told (r .answer)) [] (r .state) ⌝ }
 {
     set_running(state, true)
 }

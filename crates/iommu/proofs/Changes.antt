@@ -16,7 +16,7 @@ use Rattle.address.specs.Address.{deviceLimit, memoryLimit, inDeviceRange}
 use Rattle.address.specs.declared.DeviceAddress.{DeviceAddress}
 use Rattle.iommu.specs.declared.Mapping.{Mapping}
 use Rattle.iommu.specs.declared.Table.{Table}
-use Rattle.iommu.specs.Table.{capacity, end, soundMapping, soundFrom, soundTable, touches, anyOf, overlaps, insert, without, inUse, holding, Sound}
+use Rattle.iommu.specs.Table.{capacity, end, soundMapping, soundMappingsFrom, soundTable, touches, anyOf, overlaps, insert, without, inUse, holding, Sound}
 use Rattle.iommu.specs.Requests.{mapChecks, unmapChecks}
 use Rattle.iommu.proofs.Soundness.{mapping-facts, sound-split, sound-join, sound-wider}
 use Rattle.iommu.proofs.Passes.{in-use-length}
@@ -71,15 +71,15 @@ overlaps-split d n m ms e = or-false _ _ e
 
 -- ---- removal and insertion keep soundness
 
-without-from : (test : Mapping → Bool) (size low : ℕ) (ms : List Mapping) → soundFrom size low ms ≡ true → soundFrom size low (without test ms) ≡ true
+without-from : (test : Mapping → Bool) (size low : ℕ) (ms : List Mapping) → soundMappingsFrom size low ms ≡ true → soundMappingsFrom size low (without test ms) ≡ true
 unfolding without
 without-from test size low [] e = e
 without-from test size low (m ∷ ms) e =
     let p = sound-split size low m ms e in
     go (test m) (p .0) (p .1) (without-from test size (end m) ms (p .2))
   where
-    go : (s : Bool) → low ≤ m .device .0 → soundMapping size m ≡ true → soundFrom size (end m) (without test ms) ≡ true
-        → soundFrom size low (pick s (without test ms) (m ∷ without test ms)) ≡ true
+    go : (s : Bool) → low ≤ m .device .0 → soundMapping size m ≡ true → soundMappingsFrom size (end m) (without test ms) ≡ true
+        → soundMappingsFrom size low (pick s (without test ms) (m ∷ without test ms)) ≡ true
     go true l h ih = unfold pick in sound-wider size size (end m) low (without test ms) (omega arith) (omega arith) ih
     go false l h ih = unfold pick in sound-join size low m (without test ms) l h ih
 
@@ -87,22 +87,22 @@ pub without-sound : (test : Mapping → Bool) (size : ℕ) (ms : List Mapping) �
 unfolding soundTable
 without-sound test size ms e = without-from test size 0 ms e
 
-insert-from : (size low : ℕ) (m : Mapping) (ms : List Mapping) → soundFrom size low ms ≡ true → low ≤ m .device .0 → soundMapping size m ≡ true
-    → overlaps (m .device) (m .size) ms ≡ false → soundFrom size low (insert m ms) ≡ true
+insert-from : (size low : ℕ) (m : Mapping) (ms : List Mapping) → soundMappingsFrom size low ms ≡ true → low ≤ m .device .0 → soundMapping size m ≡ true
+    → overlaps (m .device) (m .size) ms ≡ false → soundMappingsFrom size low (insert m ms) ≡ true
 unfolding insert
-insert-from size low m [] e l h o = sound-join size low m [] l h (unfold soundFrom in refl)
+insert-from size low m [] e l h o = sound-join size low m [] l h (unfold soundMappingsFrom in refl)
 insert-from size low m (x ∷ xs) e l h o =
     go (ltb (m .device .0) (x .device .0)) refl (insert-from size (end x) m xs (p .2))
   where
-    p : (low ≤ x .device .0) × (soundMapping size x ≡ true) × (soundFrom size (end x) xs ≡ true)
+    p : (low ≤ x .device .0) × (soundMapping size x ≡ true) × (soundMappingsFrom size (end x) xs ≡ true)
     p = sound-split size low x xs e
 
     free : (touches (m .device) (m .size) x ≡ false) × (overlaps (m .device) (m .size) xs ≡ false)
     free = overlaps-split (m .device) (m .size) x xs o
 
     go : (s : Bool) → ltb (m .device .0) (x .device .0) ≡ s
-        → (end x ≤ m .device .0 → soundMapping size m ≡ true → overlaps (m .device) (m .size) xs ≡ false → soundFrom size (end x) (insert m xs) ≡ true)
-        → soundFrom size low (pick s (m ∷ x ∷ xs) (x ∷ insert m xs)) ≡ true
+        → (end x ≤ m .device .0 → soundMapping size m ≡ true → overlaps (m .device) (m .size) xs ≡ false → soundMappingsFrom size (end x) (insert m xs) ≡ true)
+        → soundMappingsFrom size low (pick s (m ∷ x ∷ xs) (x ∷ insert m xs)) ≡ true
     go true t ih =
         let lt = ltb-true (m .device .0) (x .device .0) t in
         let f = mapping-facts size x (p .1) in

@@ -10,7 +10,7 @@ use lib.Seq.{take-suc-set, drop-set-lt, drop-drop, getD-drop, append-snoc, lengt
 use Rattle.answer.specs.Tests.{pick}
 use Rattle.iommu.specs.declared.Mapping.{Mapping}
 use Rattle.iommu.specs.declared.Table.{Table}
-use Rattle.iommu.specs.Table.{without, sizeOf, inUse, holding}
+use Rattle.iommu.specs.Table.{without, totalSize, inUse, holding}
 use Rattle.iommu.proofs.Passes.{blank, entry, holding-made, Left, pass-start, pass-on, pass-end}
 
 -- at index i: the first `kept` entries are those that stay of the entries before i, and `size` is the sum of the others' sizes
@@ -19,7 +19,7 @@ pub record Compacted (test : Mapping → Bool) (t : Table) (entries : List Mappi
   pub long : length entries ≡ length (t .entries)
   pub rest : drop kept entries ≡ drop kept (t .entries)
   pub those : Left (without test (inUse t)) (λ ms. take kept entries ++ without test ms) t i
-  pub sum : Left (sizeOf test (inUse t)) (λ ms. size + sizeOf test ms) t i
+  pub sum : Left (totalSize test (inUse t)) (λ ms. size + totalSize test ms) t i
 
 pub compact-start : (test : Mapping → Bool) (t : Table) → t .count ≤ length (t .entries) → Compacted test t (t .entries) 0 0 0
 compact-start test t fits =
@@ -37,7 +37,7 @@ module _ {test : Mapping → Bool} {t : Table} {entries : List Mapping} {kept si
     -- a mapping is removed
     module _ (h : test (getD entries i blank) ≡ true) where
       pub compact-drop : Compacted test t entries kept (size + getD entries i blank .size) (i + 1)
-      unfolding without sizeOf pick
+      unfolding without totalSize pick
       compact-drop =
           let b = p .behind in
           let g : test (entry t i) ≡ true = rw compact-read at h in
@@ -49,12 +49,12 @@ module _ {test : Mapping → Bool} {t : Table} {entries : List Mapping} {kept si
             sum = pass-on (p .sum) _ lt (λ ms. rw (g, compact-read) (omega arith));
           }
 
-      pub compact-fits : size + getD entries i blank .size ≤ sizeOf test (inUse t)
+      pub compact-fits : size + getD entries i blank .size ≤ totalSize test (inUse t)
       compact-fits = let s = compact-drop .sum .is in omega arith
 
     -- a mapping stays
     pub compact-keep : test (getD entries i blank) ≡ false → Compacted test t (set entries kept (getD entries i blank)) (kept + 1) size (i + 1)
-    unfolding without sizeOf pick
+    unfolding without totalSize pick
     compact-keep h =
         let b = p .behind in
         let n = p .long in
@@ -81,6 +81,6 @@ module _ {test : Mapping → Bool} {t : Table} {entries : List Mapping} {kept si
         holding-made (without test (inUse t)) t entries kept (ap length is ∙ length-take-le kept entries (omega arith))
         (rw (is, ← p .rest) (sym (take-append-drop kept entries)))
 
-    pub compact-size : size ≡ sizeOf test (inUse t)
-    unfolding sizeOf
+    pub compact-size : size ≡ totalSize test (inUse t)
+    unfolding totalSize
     compact-size = let e = pass-end (p .sum) all in omega arith

@@ -14,7 +14,7 @@ use Rattle.address.specs.declared.MemoryAddress.{MemoryAddress}
 use Rattle.iommu.specs.declared.Mapping.{Mapping}
 use Rattle.iommu.specs.declared.Translation.{Translation}
 use Rattle.iommu.specs.declared.Translation.the-variants.{At, Nowhere}
-use Rattle.iommu.specs.Table.{end, holds, addressIn, translate, validRights, soundFrom, soundTable, touches, overlaps, insert, without}
+use Rattle.iommu.specs.Table.{end, holds, addressIn, translate, validRights, soundMappingsFrom, soundTable, touches, overlaps, insert, without}
 use Rattle.iommu.proofs.Soundness.{Facts, mapping-facts, sound-split}
 use Rattle.iommu.proofs.Changes.{apart-facts, overlaps-split}
 
@@ -54,7 +54,7 @@ Apart [] = Unit
 Apart (m ∷ ms) = ((d : DeviceAddress) → holds m d ≡ true → find ms d ≡ none) × Apart ms
 
 -- a sound list holds no address below the one that it begins at
-pub find-below : (size low : ℕ) (ms : List Mapping) → soundFrom size low ms ≡ true → (d : DeviceAddress) → d .0 < low → find ms d ≡ none
+pub find-below : (size low : ℕ) (ms : List Mapping) → soundMappingsFrom size low ms ≡ true → (d : DeviceAddress) → d .0 < low → find ms d ≡ none
 unfolding find
 find-below size low [] e d h = refl
 find-below size low (m ∷ ms) e d h =
@@ -65,11 +65,11 @@ find-below size low (m ∷ ms) e d h =
     go l true t ih = absurd (let f = holds-facts m d t in omega arith)
     go l false t ih = unfold pick in ih
 
-pub translate-below : (size low : ℕ) (ms : List Mapping) → soundFrom size low ms ≡ true → (d : DeviceAddress) → d .0 < low → translate ms d ≡ Nowhere
+pub translate-below : (size low : ℕ) (ms : List Mapping) → soundMappingsFrom size low ms ≡ true → (d : DeviceAddress) → d .0 < low → translate ms d ≡ Nowhere
 unfolding located
 translate-below size low ms e d h = translate-find ms d ∙ ap (located d) (find-below size low ms e d h)
 
-sound-apart-from : (size low : ℕ) (ms : List Mapping) → soundFrom size low ms ≡ true → Apart ms
+sound-apart-from : (size low : ℕ) (ms : List Mapping) → soundMappingsFrom size low ms ≡ true → Apart ms
 unfolding Apart
 sound-apart-from size low [] e = tt
 sound-apart-from size low (m ∷ ms) e =
@@ -181,7 +181,7 @@ pub record Found (size : ℕ) (ms : List Mapping) (d : DeviceAddress) (a : Memor
   pub address : a ≡ addressIn mapping d
   pub allowed : rights ≡ mapping .rights
 
-find-facts : (size low : ℕ) (ms : List Mapping) (d : DeviceAddress) (m : Mapping) → soundFrom size low ms ≡ true → find ms d ≡ some m → (holds m d ≡ true) × Facts size m
+find-facts : (size low : ℕ) (ms : List Mapping) (d : DeviceAddress) (m : Mapping) → soundMappingsFrom size low ms ≡ true → find ms d ≡ some m → (holds m d ≡ true) × Facts size m
 unfolding find
 find-facts size low [] d m e f = absurd (let z : _≡_ {A = ℕ} 0 1 = cc in omega arith)
 find-facts size low (x ∷ xs) d m e f =

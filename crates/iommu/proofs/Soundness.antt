@@ -13,7 +13,7 @@ use Rattle.answer.proofs.Tests.{and-true, and-made}
 use Rattle.address.specs.Address.{deviceLimit, memoryLimit, inDeviceRange, inMemoryRange}
 use Rattle.iommu.specs.declared.Mapping.{Mapping}
 use Rattle.iommu.specs.declared.Table.{Table}
-use Rattle.iommu.specs.Table.{capacity, end, validRights, alignedMapping, inRange, soundMapping, soundFrom, soundTable, sizeOf, inUse, Sound}
+use Rattle.iommu.specs.Table.{capacity, end, validRights, alignedMapping, inRange, soundMapping, soundMappingsFrom, soundTable, totalSize, inUse, Sound}
 
 -- ---- one mapping
 
@@ -50,22 +50,22 @@ facts-mapping size m f =
 
 -- ---- a list of mappings
 
-pub sound-split : (size low : ℕ) (m : Mapping) (ms : List Mapping) → soundFrom size low (m ∷ ms) ≡ true
-    → (low ≤ m .device .0) × (soundMapping size m ≡ true) × (soundFrom size (end m) ms ≡ true)
-unfolding soundFrom
+pub sound-split : (size low : ℕ) (m : Mapping) (ms : List Mapping) → soundMappingsFrom size low (m ∷ ms) ≡ true
+    → (low ≤ m .device .0) × (soundMapping size m ≡ true) × (soundMappingsFrom size (end m) ms ≡ true)
+unfolding soundMappingsFrom
 sound-split size low m ms e =
     let p = and-true _ _ e in
     let q = and-true _ _ (p .0) in
     (leb-true _ _ (q .0), q .1, p .1)
 
-pub sound-join : (size low : ℕ) (m : Mapping) (ms : List Mapping) → low ≤ m .device .0 → soundMapping size m ≡ true → soundFrom size (end m) ms ≡ true
-    → soundFrom size low (m ∷ ms) ≡ true
-unfolding soundFrom
+pub sound-join : (size low : ℕ) (m : Mapping) (ms : List Mapping) → low ≤ m .device .0 → soundMapping size m ≡ true → soundMappingsFrom size (end m) ms ≡ true
+    → soundMappingsFrom size low (m ∷ ms) ≡ true
+unfolding soundMappingsFrom
 sound-join size low m ms p q r = and-made _ _ (and-made _ _ (le-leb _ _ p) q) r
 
 -- what is sound stays so where it may begin lower, and in a longer memory
-pub sound-wider : (size size′ low low′ : ℕ) (ms : List Mapping) → size ≤ size′ → low′ ≤ low → soundFrom size low ms ≡ true → soundFrom size′ low′ ms ≡ true
-sound-wider size size′ low low′ [] longer lower e = unfold soundFrom in refl
+pub sound-wider : (size size′ low low′ : ℕ) (ms : List Mapping) → size ≤ size′ → low′ ≤ low → soundMappingsFrom size low ms ≡ true → soundMappingsFrom size′ low′ ms ≡ true
+sound-wider size size′ low low′ [] longer lower e = unfold soundMappingsFrom in refl
 sound-wider size size′ low low′ (m ∷ ms) longer lower e =
     let p = sound-split size low m ms e in
     let f = mapping-facts size m (p .1) in
@@ -81,14 +81,14 @@ sound-table t size e h =
     record { few = leb-true _ _ (p .0); table = sound-wider size memoryLimit 0 0 (inUse t) h (omega arith) (p .1) }
 
 -- each of its mappings is sound
-pub sound-at : (size low : ℕ) (ms : List Mapping) (i : ℕ) (blank : Mapping) → soundFrom size low ms ≡ true → i < length ms → Facts size (getD ms i blank)
+pub sound-at : (size low : ℕ) (ms : List Mapping) (i : ℕ) (blank : Mapping) → soundMappingsFrom size low ms ≡ true → i < length ms → Facts size (getD ms i blank)
 sound-at size low [] i blank e h = absurd (not-suc-le-zero h)
 sound-at size low (m ∷ ms) zero blank e h = mapping-facts size m (sound-split size low m ms e .1)
 sound-at size low (m ∷ ms) (suc i) blank e h = sound-at size (end m) ms i blank (sound-split size low m ms e .2) (le-of-suc-le-suc h)
 
 -- what is left of it from an index on is sound from there
-pub sound-drop : (size low : ℕ) (ms : List Mapping) (i : ℕ) (blank : Mapping) → soundFrom size low ms ≡ true → i < length ms
-    → soundFrom size (getD ms i blank .device .0) (drop i ms) ≡ true
+pub sound-drop : (size low : ℕ) (ms : List Mapping) (i : ℕ) (blank : Mapping) → soundMappingsFrom size low ms ≡ true → i < length ms
+    → soundMappingsFrom size (getD ms i blank .device .0) (drop i ms) ≡ true
 sound-drop size low [] i blank e h = absurd (not-suc-le-zero h)
 sound-drop size low (m ∷ ms) zero blank e h =
     let p = sound-split size low m ms e in
@@ -96,18 +96,18 @@ sound-drop size low (m ∷ ms) zero blank e h =
 sound-drop size low (m ∷ ms) (suc i) blank e h = sound-drop size (end m) ms i blank (sound-split size low m ms e .2) (le-of-suc-le-suc h)
 
 -- the device addresses that a test picks lie apart, so that the sum of their sizes has a bound
-pub size-bound : (test : Mapping → Bool) (size low : ℕ) (ms : List Mapping) → low ≤ deviceLimit → soundFrom size low ms ≡ true → low + sizeOf test ms ≤ deviceLimit
-unfolding sizeOf
+pub size-bound : (test : Mapping → Bool) (size low : ℕ) (ms : List Mapping) → low ≤ deviceLimit → soundMappingsFrom size low ms ≡ true → low + totalSize test ms ≤ deviceLimit
+unfolding totalSize
 size-bound test size low [] h e = omega arith
 size-bound test size low (m ∷ ms) h e =
     let p = sound-split size low m ms e in
     let f = mapping-facts size m (p .1) in
     go (test m) (size-bound test size (end m) ms (f .below) (p .2)) (p .0)
   where
-    go : (s : Bool) → end m + sizeOf test ms ≤ deviceLimit → low ≤ m .device .0 → low + (pick s (m .size) 0 + sizeOf test ms) ≤ deviceLimit
+    go : (s : Bool) → end m + totalSize test ms ≤ deviceLimit → low ≤ m .device .0 → low + (pick s (m .size) 0 + totalSize test ms) ≤ deviceLimit
     go true ih l = unfold pick in omega arith
     go false ih l = unfold pick in omega arith
 
-pub size-limit : (test : Mapping → Bool) (size : ℕ) (ms : List Mapping) → soundTable size ms ≡ true → sizeOf test ms ≤ deviceLimit
+pub size-limit : (test : Mapping → Bool) (size : ℕ) (ms : List Mapping) → soundTable size ms ≡ true → totalSize test ms ≤ deviceLimit
 unfolding soundTable
 size-limit test size ms e = omega (arith, size-bound test size 0 ms (omega arith) e)

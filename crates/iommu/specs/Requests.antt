@@ -1,4 +1,4 @@
--- The checks of look-up, map and unmap, in document 01's order.
+-- The checks of look-up, map and unmap, each list in the order of its rule.
 use Prim.Native.Nat.{ℕ}
 use mathlib.Core.Bool.{Bool}
 use mathlib.Core.List.{List}
@@ -13,13 +13,13 @@ use Rattle.address.specs.declared.DeviceAddress.{DeviceAddress}
 use Rattle.iommu.specs.declared.Mapping.{Mapping}
 use Rattle.iommu.specs.Table.{capacity, translate, mapped, validRights, alignedMapping, inRange, overlaps, cuts}
 
--- Look-up: "Checks: 9 (not below 2^48), 14, place 0."
+-- rule 4.1: look-up tries 9 and then 14, both at place 0
 unfoldable pub translateChecks : List Mapping → DeviceAddress → Verdict
 translateChecks ms d =
     Range unless ltb (d .0) deviceLimit
     then Unmapped unless mapped (translate ms d)
 
--- Map: "Checks: 5, 8, 7, 9, 10, 11", for a memory of `size` bytes; the flags are the mapping's rights.
+-- rule 3.17: map, for a memory of `size` bytes; the flags are the mapping's rights. The last line is rule 2.8.
 unfoldable pub mapChecks : ℕ → List Mapping → Mapping → Verdict
 mapChecks size ms m =
     Flags unless validRights (m .rights)
@@ -29,7 +29,7 @@ mapChecks size ms m =
     then Overlap when overlaps (m .device) (m .size) ms
     then NoRoom unless ltb (length ms) capacity
 
--- Unmap: "Checks: 5 (flags must be 0), 8, 7, 9, 12."
+-- rule 3.19: unmap; memory has no part in 9
 unfoldable pub unmapChecks : List Mapping → ℕ → DeviceAddress → ℕ → Verdict
 unmapChecks ms flags d n =
     Flags unless eqb flags 0

@@ -1,4 +1,4 @@
--- The mapping table, as the list of its entries in use (document 01, "The bench and its neighbours", "Requests", "Moving bytes").
+-- The mapping table, as the list of its entries in use (rule 1.8): what look-up, map, unmap and soundness say of it.
 use Prim.Native.Nat.{ℕ, _+_, _-_, _/_, _%_, _≤_}
 use mathlib.Core.Bool.{Bool, true, false, not}
 use mathlib.Core.Path.{_≡_}
@@ -14,7 +14,7 @@ use Rattle.iommu.specs.declared.Table.{Table}
 use Rattle.iommu.specs.declared.Translation.{Translation}
 use Rattle.iommu.specs.declared.Translation.the-variants.{At, Nowhere}
 
--- "At most 64 mappings"
+-- rule 1.8: how many mappings a table holds at most
 abbrev pub capacity : ℕ
 capacity = 64
 
@@ -24,15 +24,15 @@ end m = m .device .0 + m .size
 
 -- ---- look-up
 
--- the mapping holds a device address
+-- rule 1.8: the mapping shows a device address
 unfoldable pub holds : Mapping → DeviceAddress → Bool
 holds m d = leb (m .device .0) (d .0) and ltb (d .0) (end m)
 
--- "the memory address of the mapping that holds its device address + its distance into that mapping"
+-- rule 4.1: the memory address as far behind the mapping's as the device address is behind the mapping's
 unfoldable pub addressIn : Mapping → DeviceAddress → MemoryAddress
 addressIn m d = memoryOffset (m .memory) (d .0 - m .device .0)
 
--- Look-up: where a device address lies, and with which rights.
+-- rule 4.1: where a device address lies in memory, and with which rights
 unfoldable pub translate : List Mapping → DeviceAddress → Translation
 translate [] d = Nowhere
 translate (m ∷ ms) d = pick (holds m d) (At (addressIn m d) (m .rights)) (translate ms d)
@@ -44,7 +44,7 @@ mapped Nowhere = false
 
 -- ---- what a mapping must satisfy: each is a check of the map request, and all are soundness
 
--- "READ 1 and WRITE 2, at least one, no other bit"
+-- rules 1.8 and 3.17: READ is bit 0, WRITE bit 1; one of them at least, and no other bit
 unfoldable pub validRights : ℕ → Bool
 validRights rights = leb 1 rights and leb rights 3
 
@@ -54,25 +54,25 @@ readable rights = eqb (rights % 2) 1
 unfoldable pub writable : ℕ → Bool
 writable rights = eqb (rights / 2 % 2) 1
 
--- both addresses and the size
+-- rule 3.17, check 7: both addresses and the size
 unfoldable pub alignedMapping : Mapping → Bool
 alignedMapping m = aligned (m .memory .0) and aligned (m .device .0) and aligned (m .size)
 
--- not past 2^48, and not past the end of a memory of `size` bytes
+-- rule 3.17, check 9: not past 2^48, and not past the end of a memory of `size` bytes
 unfoldable pub inRange : ℕ → Mapping → Bool
 inRange size m = inDeviceRange (m .device) (m .size) and inMemoryRange size (m .memory) (m .size)
 
--- "each aligned, not empty, with rights 1 to 3, below 2^48 and inside the noted length", which is `size`
+-- rule 1.12, of one mapping: it passes the checks that a map makes of it alone; `size` is the noted length
 unfoldable pub soundMapping : ℕ → Mapping → Bool
 soundMapping size m = alignedMapping m and ltb 0 (m .size) and validRights (m .rights) and inRange size m
 
--- each mapping sound, "rising, apart": each begins where the one before ends (`low`), or later
-unfoldable pub soundFrom : ℕ → ℕ → List Mapping → Bool
-soundFrom size low [] = true
-soundFrom size low (m ∷ ms) = leb low (m .device .0) and soundMapping size m and soundFrom size (end m) ms
+-- rule 1.12: each mapping is sound, and begins where the one before ends (`low`), or later
+unfoldable pub soundMappingsFrom : ℕ → ℕ → List Mapping → Bool
+soundMappingsFrom size low [] = true
+soundMappingsFrom size low (m ∷ ms) = leb low (m .device .0) and soundMapping size m and soundMappingsFrom size (end m) ms
 
 unfoldable pub soundTable : ℕ → List Mapping → Bool
-soundTable size ms = soundFrom size 0 ms
+soundTable size ms = soundMappingsFrom size 0 ms
 
 -- ---- ranges of device addresses against mappings
 
@@ -80,11 +80,11 @@ soundTable size ms = soundFrom size 0 ms
 unfoldable pub touches : DeviceAddress → ℕ → Mapping → Bool
 touches d n m = ltb (d .0) (end m) and ltb (m .device .0) (d .0 + n)
 
--- a mapping lies wholly inside the range
+-- rule 3.20: a mapping lies wholly inside the range
 unfoldable pub inside : DeviceAddress → ℕ → Mapping → Bool
 inside d n m = leb (d .0) (m .device .0) and leb (end m) (d .0 + n)
 
--- what the tests above may ask where they are made: neither sum leaves 64 bits
+-- what the tests above may ask where they are made: neither sum leaves 64 bits, so that what code adds is the whole number (rule 3.21)
 pub record Bounded (d : DeviceAddress) (n : ℕ) (m : Mapping) : Type 0 where
   pub mapping : end m ≤ deviceLimit
   pub range : d .0 + n ≤ deviceLimit
@@ -94,38 +94,39 @@ unfoldable pub anyOf : (Mapping → Bool) → List Mapping → Bool
 anyOf test [] = false
 anyOf test (m ∷ ms) = test m or anyOf test ms
 
--- "shares a device address with a held mapping"
+-- rule 3.17, check 10: a mapping shares a device address with the range, of which all counts, since it may enclose the mapping (rule 7.17);
+-- memory may be shared (rule 3.22)
 unfoldable pub overlaps : DeviceAddress → ℕ → List Mapping → Bool
 overlaps d n ms = anyOf (touches d n) ms
 
--- "the range holds some but not all of a mapping"
+-- rule 3.19, check 12: a mapping lies in the range in part: it sticks out at an end, or at both
 unfoldable pub cuts : DeviceAddress → ℕ → List Mapping → Bool
 cuts d n ms = anyOf (λ m. touches d n m and not (inside d n m)) ms
 
 -- ---- changes
 
--- with one more mapping, "kept by rising device address"
+-- rule 3.18: with one more mapping, at its place in the order of device addresses
 unfoldable pub insert : Mapping → List Mapping → List Mapping
 insert m [] = m ∷ []
 insert m (x ∷ xs) = pick (ltb (m .device .0) (x .device .0)) (m ∷ x ∷ xs) (x ∷ insert m xs)
 
--- without those of which the test holds
+-- rule 3.20: without those of which the test holds
 unfoldable pub without : (Mapping → Bool) → List Mapping → List Mapping
 without test [] = []
 without test (m ∷ ms) = pick (test m) (without test ms) (m ∷ without test ms)
 
--- the sum of the sizes of those of which the test holds
-unfoldable pub sizeOf : (Mapping → Bool) → List Mapping → ℕ
-sizeOf test [] = 0
-sizeOf test (m ∷ ms) = pick (test m) (m .size) 0 + sizeOf test ms
+-- rule 3.20: the sum of the sizes of those of which the test holds
+unfoldable pub totalSize : (Mapping → Bool) → List Mapping → ℕ
+totalSize test [] = 0
+totalSize test (m ∷ ms) = pick (test m) (m .size) 0 + totalSize test ms
 
 -- ---- the code's table
 
--- "Entries past the count ... mean nothing": the mappings of a table are its entries in use
+-- rule 1.13: the mappings of a table are its entries in use; what stands past the count means nothing
 unfoldable pub inUse : Table → List Mapping
 inUse t = take (t .count) (t .entries)
 
--- the table with other mappings in use; entries past the new count keep what they held, which document 01 leaves free
+-- rule 1.13: the table with other mappings in use; entries past the new count keep what they held
 unfoldable pub holding : List Mapping → Table → Table
 holding ms t = record { entries = ms ++ drop (length ms) (t .entries); count = length ms }
 

@@ -7,7 +7,7 @@ ghost use lib.Dec.{leb};
 ghost use lib.ListN.{take, drop};
 ghost use Rattle.answer.specs.Tests.{_and_};
 ghost use Rattle.address.specs.Address.{deviceLimit, aligned};
-ghost use Rattle.iommu.specs.Table.{capacity, holds as held, translate as translated, validRights, alignedMapping, inRange, soundMapping, soundTable, touches as touched, inside as within, overlaps as overlapped, cuts as cut, insert as inserted, without, sizeOf, inUse, holding, Sound, Bounded};
+ghost use Rattle.iommu.specs.Table.{capacity, holds as held, translate as translated, validRights, alignedMapping, inRange, soundMapping, soundTable, touches as touched, inside as within, overlaps as overlapped, cuts as cut, insert as inserted, without, totalSize, inUse, holding, Sound, Bounded};
 ghost use Rattle.iommu.specs.Requests.{mapChecks, unmapChecks};
 use address::DeviceAddress;
 use address::MemoryAddress;
@@ -289,7 +289,7 @@ pub fn insert(table: Table, m: Mapping) -> Table
 // The table without the mappings that lie wholly inside the `n` device addresses from `d` on, and the sum of their sizes.
 pub fn remove(table: Table, d: DeviceAddress, n: u64) -> Removed
     requires { ⌜ (Sound table) × (d .0 + n ≤ deviceLimit) ⌝ }
-    ensures { λ r. ⌜ (r .table ≡ holding (without (within d n) (inUse table)) table) × (r .size ≡ sizeOf (within d n) (inUse table)) ⌝ }
+    ensures { λ r. ⌜ (r .table ≡ holding (without (within d n) (inUse table)) table) × (r .size ≡ totalSize (within d n) (inUse table)) ⌝ }
 {
     let count = table.count;
     let mut entries = table.entries;

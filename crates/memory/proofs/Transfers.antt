@@ -1,13 +1,13 @@
 -- Laws of the checks of host transfers and of an invalidation, by the tests that decide them.
 use Prim.Native.Nat.{ℕ, _+_, _≤_, _<_}
-use mathlib.Core.Path.{_≡_, sym, _∙_}
+use mathlib.Core.Path.{_≡_, refl, sym, _∙_}
 use mathlib.Core.List.{List}
 use borrow.Author.Tests.{lt-leb, le-leb, lt-ltb, le-ltb, leb-true}
 use Rattle.answer.specs.Codes.{Range, TooLong}
 use Rattle.answer.specs.Checks.{_then_}
 use Rattle.answer.specs.Limits.{transferLimit, lengthCheck}
 use Rattle.answer.specs.declared.Verdict.the-variants.{Pass, Fail}
-use Rattle.answer.proofs.Checks.{then-pass, then-next, then-fail, then-assoc, when-true, when-false, unless-pass, unless-true, unless-false}
+use Rattle.answer.proofs.Checks.{then-pass, then-next, then-fail, when-true, when-false, unless-pass, unless-true, unless-false}
 use Rattle.address.specs.Address.{inMemoryRange}
 use Rattle.address.specs.declared.MemoryAddress.{MemoryAddress}
 use Rattle.memory.specs.Transfers.{hostWriteChecks, hostReadChecks, invalidateChecks, unwrittenIn}
@@ -33,8 +33,8 @@ module _ (size : ℕ) (a : MemoryAddress) (n : ℕ) where
 
   -- a read is checked as a write, and then its bytes must be written
   pub host-read-checks : (shadow : List ℕ) → hostReadChecks size shadow a n ≡ (hostWriteChecks size a n then unwrittenIn shadow a n)
-  unfolding hostReadChecks hostWriteChecks unwrittenIn
-  host-read-checks shadow = sym (then-assoc _ _ _)
+  unfolding hostReadChecks
+  host-read-checks shadow = refl
 
   pub host-read-written : (shadow : List ℕ) → hostWriteChecks size a n ≡ Pass → hostReadChecks size shadow a n ≡ unwrittenIn shadow a n
   host-read-written shadow h = host-read-checks shadow ∙ then-next _ _ h

@@ -1,4 +1,4 @@
--- The checks of host store, host load and forget, in document 01's order ("Moving bytes").
+-- The checks of host write, host read and invalidate, each list in the order of its rule.
 use Prim.Native.Nat.{ℕ, zero, suc}
 use mathlib.Core.List.{List}
 use Rattle.answer.specs.Tests.{pick}
@@ -23,19 +23,18 @@ writtenRun shadow a (suc n) = pick (initialized shadow a) (suc (writtenRun shado
 unfoldable pub unwrittenIn : List ℕ → MemoryAddress → ℕ → Verdict
 unwrittenIn shadow a n = firstFault (λ i. unwrittenAt shadow (memoryOffset a i)) n
 
--- Host store of `n` bytes to a memory of `size` bytes: "13, 9 (address + length past the end of memory)"
+-- rule 4.7: a host write of `n` bytes to a memory of `size` bytes
 unfoldable pub hostWriteChecks : ℕ → MemoryAddress → ℕ → Verdict
 hostWriteChecks size a n =
     lengthCheck n
     then Range unless inMemoryRange size a n
 
--- Host load of `n` bytes: the same, "and for a load 16"
+-- rule 4.8: a host read of `n` bytes is checked as a host write, and then for 16, whose place is an offset and no address
 unfoldable pub hostReadChecks : ℕ → List ℕ → MemoryAddress → ℕ → Verdict
 hostReadChecks size shadow a n =
-    lengthCheck n
-    then Range unless inMemoryRange size a n
-    then firstFault (λ i. unwrittenAt shadow (memoryOffset a i)) n
+    hostWriteChecks size a n
+    then unwrittenIn shadow a n
 
--- Forget takes "a memory address and any length: 9"
+-- rule 4.9: invalidate, of any length, so that 13 is not tried
 unfoldable pub invalidateChecks : ℕ → MemoryAddress → ℕ → Verdict
 invalidateChecks size a n = Range unless inMemoryRange size a n

@@ -3,7 +3,7 @@ ghost use mathlib.Core.Path.{_≡_};
 ghost use mathlib.Core.List.{List};
 ghost use Prim.Native.Nat.{ℕ, _+_, _≤_};
 ghost use lib.ListN.{length};
-ghost use Rattle.wire.specs.Field.{part};
+ghost use Rattle.wire.specs.Field.{slice};
 ghost use Rattle.address.specs.Address.{memoryAddress};
 ghost use Rattle.memory.specs.Memory.{memoryOf, edited, stores, clears};
 ghost use Rattle.memory.specs.Transfers.{writtenRun, unwrittenIn, hostWriteChecks, hostReadChecks, invalidateChecks};
@@ -94,7 +94,7 @@ pub fn check_host_read(shadow: &[u8], a: MemoryAddress, n: usize) -> Verdict
 // Stores the `n` bytes of `src` from `from` on at `a`, which makes them written.
 pub fn store(bytes: &mut [u8], shadow: &mut [u8], a: usize, src: &[u8], from: usize, n: usize)
     requires { ⌜ (a + n ≤ length (now bytes)) × (a + n ≤ length (now shadow)) × (from + n ≤ length (now src)) ⌝ }
-    ensures { λ r. ⌜ memoryOf (now (bytes .exit)) (now (shadow .exit)) ≡ edited (stores (memoryAddress a) (part (now (src .entry)) from n)) (memoryOf (now (bytes .entry)) (now (shadow .entry))) ⌝ }
+    ensures { λ r. ⌜ memoryOf (now (bytes .exit)) (now (shadow .exit)) ≡ edited (stores (memoryAddress a) (slice (now (src .entry)) from n)) (memoryOf (now (bytes .entry)) (now (shadow .entry))) ⌝ }
 {
     wire::copy(bytes, a, src, from, n);
     wire::fill(shadow, a, n, INITIALIZED);

@@ -8,7 +8,7 @@ use mathlib.Core.Option.{Option, none, some}
 use lib.ListN.{length, getD, set, replicate, length-set, List·getD-eq-default}
 use lib.Dec.{eqb, leb}
 use borrow.Author.Tests.{le-ltb}
-use Rattle.answer.specs.Tests.{pick, isSome}
+use Rattle.answer.specs.Tests.{pick, flagged, isSome}
 use Rattle.answer.specs.Codes.{Missing}
 use Rattle.answer.specs.Checks.{_then_, _when_, _unless_, _at_}
 use Rattle.answer.specs.Limits.{transferLimit, lengthCheck}
@@ -17,7 +17,7 @@ use Rattle.answer.specs.declared.Verdict.the-variants.{Pass, Fail}
 use Rattle.answer.proofs.Tests.{pick-true, is-false}
 use Rattle.answer.proofs.Checks.{then-pass, unless-pass}
 use Rattle.registers.specs.Rows.{CommonField, QueueConfig, rowCount, rowOf, sizeOf, listed, selectorWidth, statusRow}
-use Rattle.registers.specs.File.{current, File, valueIn, fileFrom, registerOf, slotsOf}
+use Rattle.registers.specs.File.{current, File, registerValue, fileFrom, registerOf, slotsOf}
 use Rattle.registers.specs.declared.Register.{Register}
 use Rattle.registers.proofs.Rows.{selected, row-listed}
 use Rattle.registers.proofs.Values.{value-size}
@@ -87,7 +87,7 @@ module _ (x : Option (List ℕ)) (slots : List Register) (kind selector : ℕ) w
   unfolding named
   named-offered e = rw e
 
-  pub named-kept : 0 < rowOf kind selector → named (seenIn x slots) kind selector ≡ getD slots (rowOf kind selector - 1) absent .set
+  pub named-kept : 0 < rowOf kind selector → named (seenIn x slots) kind selector ≡ flagged (getD slots (rowOf kind selector - 1) absent .set)
   unfolding named
   named-kept pos =
       let e : rowOf kind selector ≡ suc (rowOf kind selector - 1) = omega arith in
@@ -95,7 +95,7 @@ module _ (x : Option (List ℕ)) (slots : List Register) (kind selector : ℕ) w
 
   pub named-none : length slots ≡ 14 → rowCount ≤ rowOf kind selector → false ≡ named (seenIn x slots) kind selector
   named-none long past =
-      sym (named-kept (omega arith) ∙ ap (λ (r : Register). r .set) (List·getD-eq-default slots absent {n = rowOf kind selector - 1} (omega arith)))
+      sym (named-kept (omega arith) ∙ ap (λ (r : Register). flagged (r .set)) (List·getD-eq-default slots absent {n = rowOf kind selector - 1} (omega arith)))
 
 -- what the code gives for answers that agree
 pub agree : (x y : Answer File) → x ≡ y → loadedOf y ≡ loadedOf x
@@ -113,7 +113,7 @@ module _ (x : Option (List ℕ)) (slots : List Register) (p : ℕ) where
   finish-missing h = rw h
 
 -- the code asks the slot of status
-pub status-named : (slots : List Register) → getD slots 5 absent .set ≡ isSome (current (fileFrom 1 slots) statusRow)
+pub status-named : (slots : List Register) → flagged (getD slots 5 absent .set) ≡ isSome (current (fileFrom 1 slots) statusRow)
 unfolding current
 status-named slots = sym (set-at 1 slots 5)
 
@@ -131,7 +131,7 @@ pub record Loop (s : List ℕ) (p : ℕ) (slots : List Register) (offered : Bool
   pub canonical : Canonical slots
 
 pub loop-start : (s : List ℕ) (r : Register) → r ≡ registerOf none → Loop s 0 (replicate 14 r) false
-unfolding fileFrom slotsOf registerOf valueIn pick isSome
+unfolding fileFrom slotsOf registerOf registerValue pick isSome
 loop-start s r e = rw e record {
   fuel = suc (length s);
   enough = omega arith;

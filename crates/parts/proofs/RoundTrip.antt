@@ -18,7 +18,7 @@ use Rattle.wire.specs.Field.{field, bytesOf}
 use Rattle.wire.proofs.Laws.{field-bytes}
 use Rattle.registers.specs.Rows.{rowCount, statusRow, kindOf, selectorOf, sizeOf, selects, listed, selectorWidth}
 use Rattle.registers.specs.Values.{offered, valueChecks}
-use Rattle.registers.specs.File.{File, keptCount, current, soundFrom, soundFile, sizedFrom}
+use Rattle.registers.specs.File.{File, keptCount, current, soundValuesFrom, soundFile, sizedFrom}
 use Rattle.registers.proofs.Rows.{size-most, kind-fits, selector-fits, row-of-row}
 use Rattle.registers.proofs.Values.{value-size}
 use Rattle.registers.proofs.File.{current-sound, current-sized, sound-sized}
@@ -135,7 +135,7 @@ module _ (file : File) (sized : sizedFrom 1 file ≡ true) (status : isSome (cur
   saved-least (suc n) i =
       omega (arith, length-append (partOf i (current file i)) (savedFrom file (suc i) n), part-least i (always i) (current file i) refl refl, saved-least n (suc i))
 
-  -- "Length is 41 to 429."
+  -- rule 5.14: 41 to 429 bytes are saved
   pub saved-bounds : (41 ≤ length (saved file)) × (length (saved file) ≤ 429)
   unfolding saved most least always sizeOf pick _or_
   saved-bounds = (saved-least rowCount 0, saved-most rowCount 0)
@@ -231,7 +231,7 @@ module _ (file : File) (long : length file ≡ keptCount) (sound : soundFile fil
   unfolding soundFile
   status-set = and-true _ _ sound .0
 
-  all-sound : soundFrom 1 file ≡ true
+  all-sound : soundValuesFrom 1 file ≡ true
   unfolding soundFile
   all-sound = and-true _ _ sound .1
 

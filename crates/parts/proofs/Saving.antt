@@ -9,11 +9,12 @@ use lib.ListN.{length, take, length-append}
 use lib.Seq.{sets, length-sets, length-take-le}
 use borrow.Author.Tests.{ltb-false}
 use Rattle.answer.specs.declared.Verdict.the-variants.{Pass}
+use Rattle.answer.specs.Tests.{flagged}
 use Rattle.answer.proofs.Checks.{then-pass, when-pass}
 use Rattle.wire.specs.Field.{bytesOf}
 use Rattle.wire.proofs.Laws.{length-bytes, sets-then}
 use Rattle.registers.specs.Rows.{rowCount, kindOf, selectorOf, sizeOf}
-use Rattle.registers.specs.File.{File, current, valueIn}
+use Rattle.registers.specs.File.{File, current, registerValue}
 use Rattle.registers.specs.declared.Register.{Register}
 use Rattle.registers.proofs.Rows.{size-most}
 use Rattle.registers.proofs.File.{value-set, value-unset, features, features-row, features-whole, features-set}
@@ -71,12 +72,12 @@ module _ (file : File) (i : ℕ) (lt : i < rowCount) where
   rest-cons = let e : rowCount - i ≡ suc (rowCount - (i + 1)) = omega arith in rw (e, add-one)
 
   -- in a turn, with the register `r` that the row shows
-  module _ (r : Register) (is : valueIn i r ≡ current file i) where
-    pub rest-none : r .set ≡ false → rest file i ≡ rest file (i + 1)
+  module _ (r : Register) (is : registerValue i r ≡ current file i) where
+    pub rest-none : flagged (r .set) ≡ false → rest file i ≡ rest file (i + 1)
     unfolding partOf
     rest-none h = rest-cons ∙ rw (← is, value-unset i r h)
 
-    module _ (whole : length (r .bytes) ≡ 32) (h : r .set ≡ true) where
+    module _ (whole : length (r .bytes) ≡ 32) (h : flagged (r .set) ≡ true) where
       pub rest-part : rest file i ≡ encoded i (take (sizeOf i) (r .bytes)) ++ rest file (i + 1)
       unfolding partOf
       rest-part = rest-cons ∙ rw (← is, value-set i r h)
@@ -112,12 +113,12 @@ module _ (file : File) (n i : ℕ) (h : Count file n i) where
   pub count-end : rowCount ≤ i → n ≡ length (saved file)
   count-end e = omega (arith, h .all, ap length (rest-end file i e))
 
-  module _ (lt : i < rowCount) (r : Register) (is : valueIn i r ≡ current file i) where
-    pub count-none : r .set ≡ false → (n′ : ℕ) → n′ ≡ n → Count file n′ (i + 1)
+  module _ (lt : i < rowCount) (r : Register) (is : registerValue i r ≡ current file i) where
+    pub count-none : flagged (r .set) ≡ false → (n′ : ℕ) → n′ ≡ n → Count file n′ (i + 1)
     count-none e n′ same =
         record { most = omega arith; small = omega (arith, h .small); all = omega (arith, h .all, ap length (rest-none file i lt r is e)) }
 
-    pub count-more : length (r .bytes) ≡ 32 → r .set ≡ true → (n′ : ℕ) → n′ ≡ n + headerSize + sizeOf i → Count file n′ (i + 1)
+    pub count-more : length (r .bytes) ≡ 32 → flagged (r .set) ≡ true → (n′ : ℕ) → n′ ≡ n + headerSize + sizeOf i → Count file n′ (i + 1)
     count-more whole e n′ more =
         record {
           most = omega arith;
@@ -157,8 +158,8 @@ module _ (file : File) (buf₀ buf : List ℕ) (p i : ℕ) (h : Left file buf₀
   pub left-end : rowCount ≤ i → (buf ≡ sets buf₀ (headerSize + sizeOf 0) (rest file 1)) × (p ≡ length (saved file))
   left-end e = (sym (h .bytes ∙ rw (rest-end file i e)), omega (arith, h .count, ap length (rest-end file i e)))
 
-  module _ (lt : i < rowCount) (r : Register) (is : valueIn i r ≡ current file i) where
-    pub left-none : r .set ≡ false → (buf′ : List ℕ) (p′ : ℕ) → buf′ ≡ buf → p′ ≡ p → Left file buf₀ buf′ p′ (i + 1)
+  module _ (lt : i < rowCount) (r : Register) (is : registerValue i r ≡ current file i) where
+    pub left-none : flagged (r .set) ≡ false → (buf′ : List ℕ) (p′ : ℕ) → buf′ ≡ buf → p′ ≡ p → Left file buf₀ buf′ p′ (i + 1)
     left-none e buf′ p′ b q =
         let none = rest-none file i lt r is e in
         rw (b, q)
@@ -169,7 +170,7 @@ module _ (file : File) (buf₀ buf : List ℕ) (p i : ℕ) (h : Left file buf₀
           bytes = h .bytes ∙ ap (sets buf p) none;
         }
 
-    module _ (whole : length (r .bytes) ≡ 32) (e : r .set ≡ true) where
+    module _ (whole : length (r .bytes) ≡ 32) (e : flagged (r .set) ≡ true) where
       pub left-room : p + headerSize + sizeOf i ≤ length (saved file)
       left-room = omega (arith, h .count, count-part file i lt r is whole e)
 

@@ -14,7 +14,7 @@ use Rattle.answer.proofs.Tests.{and-true, and-made, pick-true}
 use Rattle.answer.proofs.Checks.{never, then-pass, unless-pass, when-pass, at-pass}
 use Rattle.registers.specs.Rows.{rowCount, rowOf, listed}
 use Rattle.registers.specs.Values.{valueChecks}
-use Rattle.registers.specs.File.{File, keptCount, current, soundFrom, soundFile, fileOf, slotsOf, soundValue}
+use Rattle.registers.specs.File.{File, keptCount, current, soundValuesFrom, soundFile, fileOf, slotsOf, soundValue}
 use Rattle.registers.proofs.File.{sound-cons, sound-sized, file-written}
 use Rattle.registers.proofs.Soundness.{sound-set}
 use Rattle.parts.specs.Step.{stepAt}
@@ -45,7 +45,7 @@ onward-done (refused code place) f b e = never-done e
 -- each value seen passes its row's checks
 pub record Good (seen : Seen) : Type 0 where
   pub long : length seen ≡ rowCount
-  pub sound : soundFrom 0 seen ≡ true
+  pub sound : soundValuesFrom 0 seen ≡ true
 
 -- a value that passes passes as the first one, too
 once : (i : ℕ) (twice : Bool) (v : List ℕ) → valueChecks i twice v ≡ Pass → valueChecks i false v ≡ Pass
@@ -101,7 +101,7 @@ from-sound (suc fuel) s p seen file e good = step (stepAt s p) e (λ p′ seen�
 
 -- What an accepted stream makes is a sound register file.
 pub load-sound : (running : Bool) (s : List ℕ) (file : File) → load running s ≡ done file → (length file ≡ keptCount) × (soundFile file ≡ true)
-unfolding load Sound soundFrom soundValue _and_
+unfolding load Sound soundValuesFrom soundValue _and_
 load-sound running s file e =
     let o = onward-done _ _ _ e in
     let d = settled _ _ _ (o .1) in

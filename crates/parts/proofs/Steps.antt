@@ -14,7 +14,7 @@ use Rattle.answer.specs.declared.Verdict.{Verdict}
 use Rattle.answer.specs.declared.Verdict.the-variants.{Pass, Fail}
 use Rattle.answer.proofs.Checks.{then-pass, when-pass, at-pass}
 use Rattle.wire.specs.Field.{field}
-use Rattle.parts.specs.Step.{headerSize, valueSize, headerChecks, partAt, stepOn, partStep, stepAt, valueTo, valueIn, valueAt}
+use Rattle.parts.specs.Step.{headerSize, valueSize, headerChecks, partAt, stepOn, partStep, stepAt, valueTo, stepValue, valueAt}
 use Rattle.parts.specs.declared.Step.{Step}
 use Rattle.parts.specs.declared.Step.the-variants.{Part, End, Refused}
 
@@ -91,7 +91,7 @@ same-next kind flags selector next kind′ flags′ selector′ next′ e = cc
 -- a part has its header and its value inside the stream
 pub step-says : (s : List ℕ) (p kind flags selector next : ℕ) → Part kind flags selector next ≡ stepAt s p
     → (p + headerSize ≤ next) × (next ≤ length s)
-unfolding stepAt headerChecks partAt
+unfolding stepAt partStep headerChecks partAt
 step-says s p kind flags selector next e =
     let a = passed _ _ _ _ e (not-refused kind flags selector next Truncated p) in
     let b = passed _ _ _ _ (a .1) (not-end kind flags selector next) in
@@ -107,13 +107,13 @@ step-says s p kind flags selector next e =
 
 module _ (s : List ℕ) (p : ℕ) (x : Step) (e : x ≡ stepAt s p) where
   pub value-part : (kind flags selector next : ℕ) → x ≡ Part kind flags selector next → valueTo s p next ≡ valueAt s p
-  unfolding valueAt valueIn
+  unfolding valueAt stepValue
   value-part kind flags selector next is = rw (← e, is)
 
   pub value-end : x ≡ End → [] ≡ valueAt s p
-  unfolding valueAt valueIn
+  unfolding valueAt stepValue
   value-end is = rw (← e, is)
 
   pub value-refused : (code place : ℕ) → x ≡ Refused code place → [] ≡ valueAt s p
-  unfolding valueAt valueIn
+  unfolding valueAt stepValue
   value-refused code place is = rw (← e, is)

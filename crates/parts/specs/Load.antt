@@ -1,4 +1,4 @@
--- Loading a stream of parts (document 01, "Registers and parts").
+-- Loading a stream of parts (rules 5.9 to 5.12).
 use Prim.Native.Nat.{ℕ, zero, suc, _^_}
 use mathlib.Core.Bool.{Bool}
 use mathlib.Core.List.{List, _∷_}
@@ -28,12 +28,12 @@ Seen = List (Option (List ℕ))
 abbrev pub nothingSeen : Seen
 nothingSeen = replicate rowCount none
 
--- offered features are flagged optional, and no other listed type
+-- rules 5.10 and 5.14: offered features are flagged optional, and no other listed type
 unfoldable pub flagsOf : ℕ → ℕ
 flagsOf kind = pick (eqb kind OfferedFeatures) 1 0
 
--- A part of a listed type: "optional set on a listed type other than 0x100, or clear on 0x100, or a nonzero selector byte outside the
--- field named above (19); selector number not listed (6, place: start of the part)"; then its value, which came before where `twice` holds
+-- rule 5.10, a part of a listed type: the optional flag (19), selector bytes that the type does not use (19), the selector number (6); then
+-- its value, which came before where `twice` holds
 unfoldable pub listedChecks : Bool → ℕ → ℕ → ℕ → List ℕ → Verdict
 listedChecks twice kind flags selector v =
     Header unless eqb flags (flagsOf kind)
@@ -41,22 +41,23 @@ listedChecks twice kind flags selector v =
     then Index unless selects kind selector
     then valueChecks (rowOf kind selector) twice v
 
--- A part behind the first three checks: "type 0x600 or above (20); any other unlisted type is skipped if flagged optional (bit 0), else 20"
+-- rule 5.10, a part behind the first three checks: from type 0x600 on it is refused, optional or not; below, one that is not listed is
+-- skipped if it is optional, wherever the common types end (rule 5.19)
 unfoldable pub partChecks : Bool → ℕ → ℕ → ℕ → List ℕ → Verdict
 partChecks twice kind flags selector v =
     UnknownPart when leb 0x600 kind
     then pick (listed kind) (listedChecks twice kind flags selector v) (UnknownPart unless eqb flags 1)
 
--- "same type and selector seen before"
+-- rule 5.10, check 21: a part of this stream named the register before
 unfoldable pub named : Seen → ℕ → ℕ → Bool
 named seen kind selector = isSome (getD seen (rowOf kind selector) none)
 
--- what is seen with a part that passed: a part of an unlisted type is skipped
+-- what is seen with a part that passed: a part of an unlisted type is skipped, so that it may come again
 unfoldable pub taken : Seen → ℕ → ℕ → List ℕ → Seen
 taken seen kind selector v = pick (listed kind) (set seen (rowOf kind selector) (some v)) seen
 
--- "At the end, 24", at the stream's length. "Accepted: registers named take their values, all others become unset"; what the stream
--- said of offered features, row 0, is not kept.
+-- At the end 24, with the stream's length as place (rule 5.11); or the registers: what no part named is `none`, and not zero
+-- (rules 5.12 and 7.14). What the stream said of offered features, row 0, is not kept (rule 5.7).
 unfoldable pub finish : Seen → ℕ → Answer File
 finish seen p = settle ((Missing unless isSome (getD seen statusRow none)) at p) (drop 1 seen)
 
@@ -71,7 +72,7 @@ unfoldable pub loadFrom : ℕ → List ℕ → ℕ → Seen → Answer File
 loadFrom zero s p seen = refused Truncated p
 loadFrom (suc fuel) s p seen = onStep (loadFrom fuel s) s p seen (stepAt s p)
 
--- Loading: "checks 17, 13, then each part in order"; the register file that an accepted stream makes
+-- rule 5.9: 17, 13, then each part in order; the register file that an accepted stream makes
 unfoldable pub load : Bool → List ℕ → Answer File
 load running s =
     settle (Running when running then lengthCheck (length s)) nothingSeen

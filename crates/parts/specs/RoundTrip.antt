@@ -1,4 +1,4 @@
--- The round trip of registers through a stream.
+-- The round trip of registers through a stream (rule 8.4).
 use mathlib.Core.Path.{_≡_}
 use mathlib.Core.Bool.{true, false}
 use lib.ListN.{length}

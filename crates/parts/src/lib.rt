@@ -30,7 +30,8 @@ pub enum Step {
 
 // ---- one step
 
-const HEADER_SIZE: usize = 16;
+// The bytes of a part before its value.
+pub const HEADER_SIZE: usize = 16;
 
 // The part at place `at`, where `h` is what is left of the stream there.
 fn part_at(h: &[u8], at: usize) -> Step
@@ -204,7 +205,7 @@ fn load_parts(s: &[u8]) -> Loaded
         match step {
             Step::End => {
                 let status = slots[registers::STATUS_ROW - 1];
-                return finish(slots, status.set, at);
+                return finish(slots, status.set == registers::SET, at);
             }
             Step::Refused(code, place) => {
                 return refused(code, place);
@@ -222,7 +223,7 @@ fn load_parts(s: &[u8]) -> Loaded
                     twice = offered;
                 } else if row < registers::ROWS {
                     let r = slots[row - 1];
-                    twice = r.set;
+                    twice = r.set == registers::SET;
                 }
                 let verdict = check_part(row, twice, kind as u64, flags, selector, v);
                 match verdict {
@@ -284,7 +285,7 @@ fn saved_length(registers: Registers) -> usize
     let mut i: usize = 0;
     while i < registers::SLOTS {
         let r = slots[i];
-        if r.set {
+        if r.set == registers::SET {
             n = n + HEADER_SIZE + registers::size_of(i + 1);
         }
         i += 1;
@@ -318,7 +319,7 @@ pub fn save(registers: Registers, buf: &mut [u8]) -> usize
     let mut i: usize = 0;
     while i < registers::SLOTS {
         let r = slots[i];
-        if r.set {
+        if r.set == registers::SET {
             put_part(buf, at, i + 1, r);
             at = at + HEADER_SIZE + registers::size_of(i + 1);
         }

@@ -1,5 +1,5 @@
--- A reader of a stream of parts: the stream and a place in it (document 01, "Registers and parts").
--- "The stream is stepped by a walker that keeps hold of the stream and its place".
+-- A reader of a stream of parts: it holds on to the stream and to a place in it (rule 6.1).
+-- What stands there is a step of the crate parts; here is where it goes on.
 use Prim.Native.Nat.{ℕ}
 use mathlib.Core.List.{List}
 use denote.Ref.{RefT, now}
@@ -8,7 +8,7 @@ use Rattle.parts.specs.declared.Step.{Step}
 use Rattle.parts.specs.declared.Step.the-variants.{Part, End, Refused}
 use Rattle.reader.specs.declared.PartReader.{PartReader}
 
--- where a step leaves the reader that stood at `p`: behind a part; after a refusal or at the end it stays
+-- rule 6.5: where a step leaves the reader that stood at `p`: behind a part; after a refusal or at the end it stays
 unfoldable pub nextPlace : Step → ℕ → ℕ
 nextPlace (Part kind flags selector next) p = next
 nextPlace End p = p

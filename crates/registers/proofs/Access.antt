@@ -16,7 +16,7 @@ use Rattle.answer.specs.declared.Verdict.the-variants.{Pass}
 use Rattle.answer.proofs.Checks.{then-pass, unless-pass, when-pass}
 use Rattle.registers.specs.Rows.{rowCount, sizeOf, rowOf, listed}
 use Rattle.registers.specs.Values.{valueChecks}
-use Rattle.registers.specs.File.{File, current, withValue, valueIn, fileFrom, fileOf, registerOf}
+use Rattle.registers.specs.File.{File, current, withValue, registerValue, fileFrom, fileOf, registerOf}
 use Rattle.registers.specs.Access.{selectorChecks, setChecks, setTo, readChecks, orEmpty, readValue}
 use Rattle.registers.specs.declared.Register.{Register}
 use Rattle.registers.specs.declared.Registers.{Registers}
@@ -88,10 +88,10 @@ unfolding readChecks _then_ _unless_
 read-listed file kind selector room l s = rw (l, s)
 
 -- a register that a row shows, where the row has a value
-pub shown-value : (i : ℕ) (r : Register) (x : Option (List ℕ)) → valueIn i r ≡ x → isSome x ≡ true → x ≡ some (take (sizeOf i) (r .bytes))
+pub shown-value : (i : ℕ) (r : Register) (x : Option (List ℕ)) → registerValue i r ≡ x → isSome x ≡ true → x ≡ some (take (sizeOf i) (r .bytes))
 shown-value i r x e h = sym e ∙ value-set i r (sym (set-is i r) ∙ ap isSome e ∙ h)
 
-pub value-read : (file : File) (kind selector : ℕ) (r : Register) → valueIn (rowOf kind selector) r ≡ current file (rowOf kind selector)
+pub value-read : (file : File) (kind selector : ℕ) (r : Register) → registerValue (rowOf kind selector) r ≡ current file (rowOf kind selector)
     → isSome (current file (rowOf kind selector)) ≡ true → readValue file kind selector ≡ take (sizeOf (rowOf kind selector)) (r .bytes)
 unfolding readValue orEmpty
 value-read file kind selector r e h = ap orEmpty (shown-value _ r _ e h)

@@ -16,7 +16,7 @@ use denote.Array.{each}
 use denote.Laws.{Is}
 use denote.Struct.Declared.{row}
 use borrow.Author.Tests.{eq-eqb, eqb-true}
-use Rattle.answer.specs.Tests.{_and_, pick, isSome}
+use Rattle.answer.specs.Tests.{_and_, pick, flagged, isSome}
 use Rattle.answer.specs.Checks.{_then_, _when_, _unless_, passes}
 use Rattle.answer.specs.declared.Verdict.{Verdict}
 use Rattle.answer.specs.declared.Verdict.the-variants.{Pass, Fail}
@@ -25,7 +25,7 @@ use Rattle.answer.proofs.Arrays.{length-mapped}
 use Rattle.wire.specs.Field.{field, bytesOf}
 use Rattle.registers.specs.Rows.{statusRow, kindOf, sizeOf}
 use Rattle.registers.specs.Values.{offered, contentChecks, valueChecks}
-use Rattle.registers.specs.File.{File, current, soundFrom, soundValue, soundFile, valueIn, fileFrom, fileOf, registerOf, slotsOf, sizedFrom}
+use Rattle.registers.specs.File.{File, current, soundValuesFrom, soundValue, soundFile, registerValue, fileFrom, fileOf, registerOf, slotsOf, sizedFrom}
 use Rattle.registers.specs.declared.Register.{Register}
 use Rattle.registers.specs.declared.Registers.{Registers}
 use Rattle.registers.proofs.Registers.{the-type}
@@ -33,7 +33,7 @@ use Rattle.registers.proofs.Values.{value-size}
 
 -- what a list of registers reads as past its end
 abbrev pub absent : Register
-absent = record { set = false; bytes = [] }
+absent = record { set = 0; bytes = [] }
 
 none≢some : {X : Type 0} {v : X} → none ≡ some v → ⊥
 none≢some e = let z : _≡_ {A = ℕ} 0 1 = cc in omega arith
@@ -43,32 +43,32 @@ some-same e = cc
 
 -- ---- one register
 
-pub value-set : (i : ℕ) (r : Register) → r .set ≡ true → valueIn i r ≡ some (take (sizeOf i) (r .bytes))
-unfolding valueIn pick
+pub value-set : (i : ℕ) (r : Register) → flagged (r .set) ≡ true → registerValue i r ≡ some (take (sizeOf i) (r .bytes))
+unfolding registerValue pick
 value-set i r h = rw h
 
-pub value-unset : (i : ℕ) (r : Register) → r .set ≡ false → valueIn i r ≡ none
-unfolding valueIn pick
+pub value-unset : (i : ℕ) (r : Register) → flagged (r .set) ≡ false → registerValue i r ≡ none
+unfolding registerValue pick
 value-unset i r h = rw h
 
-pub set-is : (i : ℕ) (r : Register) → isSome (valueIn i r) ≡ r .set
-unfolding valueIn pick isSome
-set-is i r = go (r .set)
+pub set-is : (i : ℕ) (r : Register) → isSome (registerValue i r) ≡ flagged (r .set)
+unfolding registerValue pick isSome
+set-is i r = go (flagged (r .set))
   where
     go : (t : Bool) → isSome (pick t (some (take (sizeOf i) (r .bytes))) none) ≡ t
     go true = refl
     go false = refl
 
 -- a value written is read back
-pub value-written : (i : ℕ) (v : List ℕ) → length v ≡ sizeOf i → valueIn i (registerOf (some v)) ≡ some v
-unfolding valueIn registerOf pick
+pub value-written : (i : ℕ) (v : List ℕ) → length v ≡ sizeOf i → registerValue i (registerOf (some v)) ≡ some v
+unfolding registerValue registerOf pick
 value-written i v e = ap some (take-at v _ (sizeOf i) e)
 
 -- the register that code shows for the row of offered features
 abbrev pub features : Register
 features = registerOf (some (bytesOf 8 offered))
 
-pub features-row : (file : File) → valueIn 0 features ≡ current file 0
+pub features-row : (file : File) → registerValue 0 features ≡ current file 0
 unfolding current sizeOf bytesOf
 features-row file = value-written 0 (bytesOf 8 offered) refl
 
@@ -76,16 +76,16 @@ pub features-whole : length (features .bytes) ≡ 32
 unfolding registerOf bytesOf
 features-whole = refl
 
-pub features-set : features .set ≡ true
+pub features-set : flagged (features .set) ≡ true
 unfolding registerOf
 features-set = refl
 
 -- a value copied to the front of 32 zeros
-pub register-made : (v : List ℕ) → length v ≤ 32 → record { set = true; bytes = sets (replicate 32 0) 0 v } ≡ registerOf (some v)
+pub register-made : (v : List ℕ) → length v ≤ 32 → record { set = 1; bytes = sets (replicate 32 0) 0 v } ≡ registerOf (some v)
 unfolding registerOf
 register-made v h =
     let e : 0 + length v ≡ length v = omega arith in
-    ap (λ (b : List ℕ). record { set = true; bytes = b }) (sets-eq v (replicate 32 0) 0 (omega arith) ∙ rw (e, zeros 32 (length v)))
+    ap (λ (b : List ℕ). record { set = 1; bytes = b }) (sets-eq v (replicate 32 0) 0 (omega arith) ∙ rw (e, zeros 32 (length v)))
   where
     zeros : (n k : ℕ) → drop {A = ℕ} k (replicate n 0) ≡ replicate (n - k) 0
     zeros n zero = rw sub-zero
@@ -94,23 +94,23 @@ register-made v h =
 
 -- ---- the file that registers are
 
-pub file-at : (i : ℕ) (l : List Register) (k : ℕ) → getD (fileFrom i l) k none ≡ valueIn (i + k) (getD l k absent)
+pub file-at : (i : ℕ) (l : List Register) (k : ℕ) → getD (fileFrom i l) k none ≡ registerValue (i + k) (getD l k absent)
 unfolding fileFrom
 file-at i [] k = sym (value-unset (i + k) absent refl)
 file-at i (r ∷ rs) zero = rw add-zero
 file-at i (r ∷ rs) (suc k) = rw (add-suc, ← suc-add) (file-at (suc i) rs k)
 
-pub set-at : (i : ℕ) (l : List Register) (k : ℕ) → isSome (getD (fileFrom i l) k none) ≡ getD l k absent .set
+pub set-at : (i : ℕ) (l : List Register) (k : ℕ) → isSome (getD (fileFrom i l) k none) ≡ flagged (getD l k absent .set)
 set-at i l k = ap isSome (file-at i l k) ∙ set-is (i + k) (getD l k absent)
 
 -- the register that is kept for a row
-pub current-kept : (registers : Registers) (i : ℕ) → 0 < i → current (fileOf registers) i ≡ valueIn i (getD (registers .slots) (i - 1) absent)
+pub current-kept : (registers : Registers) (i : ℕ) → 0 < i → current (fileOf registers) i ≡ registerValue i (getD (registers .slots) (i - 1) absent)
 unfolding current fileOf
 current-kept registers zero h = absurd (not-suc-le-zero h)
 current-kept registers (suc k) h = let e : 1 + k ≡ suc k = omega arith in let f : suc k - 1 ≡ k = omega arith in rw (f, ← e) (file-at 1 (registers .slots) k)
 
 -- by its slot
-pub slot-row : (registers : Registers) (k : ℕ) → valueIn (k + 1) (getD (registers .slots) k absent) ≡ current (fileOf registers) (k + 1)
+pub slot-row : (registers : Registers) (k : ℕ) → registerValue (k + 1) (getD (registers .slots) k absent) ≡ current (fileOf registers) (k + 1)
 slot-row registers k = let e : k + 1 - 1 ≡ k = omega arith in sym (rw e at (current-kept registers (k + 1) (omega arith)))
 
 pub length-file : (i : ℕ) (l : List Register) → length (fileFrom i l) ≡ length l
@@ -124,9 +124,9 @@ pub file-set : (i : ℕ) (l : List Register) (k : ℕ) (v : List ℕ) → length
 unfolding fileFrom
 file-set i [] k v e = refl
 file-set i (r ∷ rs) zero v e = ap (λ (x : Option (List ℕ)). x ∷ fileFrom (suc i) rs) (value-written i v (rw add-zero at e))
-file-set i (r ∷ rs) (suc k) v e = ap (λ (f : File). valueIn i r ∷ f) (file-set (suc i) rs k v (rw (suc-add, ← add-suc) e))
+file-set i (r ∷ rs) (suc k) v e = ap (λ (f : File). registerValue i r ∷ f) (file-set (suc i) rs k v (rw (suc-add, ← add-suc) e))
 
-none-unset : registerOf none .set ≡ false
+none-unset : flagged (registerOf none .set) ≡ false
 unfolding registerOf
 none-unset = refl
 
@@ -150,11 +150,11 @@ pub sound-value : (i : ℕ) (v : List ℕ) → soundValue i (some v) ≡ true �
 unfolding soundValue
 sound-value i v h = passes-true _ h
 
-pub sound-cons : (i : ℕ) (x : Option (List ℕ)) (file : File) → soundFrom i (x ∷ file) ≡ (soundValue i x and soundFrom (suc i) file)
-unfolding soundFrom
+pub sound-cons : (i : ℕ) (x : Option (List ℕ)) (file : File) → soundValuesFrom i (x ∷ file) ≡ (soundValue i x and soundValuesFrom (suc i) file)
+unfolding soundValuesFrom
 sound-cons i x file = refl
 
-sound-at : (i : ℕ) (file : File) (k : ℕ) (v : List ℕ) → soundFrom i file ≡ true → getD file k none ≡ some v → valueChecks (i + k) false v ≡ Pass
+sound-at : (i : ℕ) (file : File) (k : ℕ) (v : List ℕ) → soundValuesFrom i file ≡ true → getD file k none ≡ some v → valueChecks (i + k) false v ≡ Pass
 sound-at i [] k v h e = absurd (none≢some e)
 sound-at i (x ∷ file) zero v h e = rw add-zero (sound-value i v (ap (soundValue i) (sym e) ∙ and-true _ _ (sym (sound-cons i x file) ∙ h) .0))
 sound-at i (x ∷ file) (suc k) v h e = rw (add-suc, ← suc-add) (sound-at (suc i) file k v (and-true _ _ (sym (sound-cons i x file) ∙ h) .1) e)
@@ -164,14 +164,14 @@ unfolding valueChecks contentChecks sizeOf kindOf bytesOf field pick _then_ _whe
 offered-sound = refl
 
 -- what any row of a sound file shows passes its checks
-pub current-sound : (file : File) (i : ℕ) (v : List ℕ) → soundFrom 1 file ≡ true → current file i ≡ some v → valueChecks i false v ≡ Pass
+pub current-sound : (file : File) (i : ℕ) (v : List ℕ) → soundValuesFrom 1 file ≡ true → current file i ≡ some v → valueChecks i false v ≡ Pass
 unfolding current
 current-sound file zero v h e = ap (valueChecks 0 false) (some-same (sym e)) ∙ offered-sound
 current-sound file (suc k) v h e = let i : 1 + k ≡ suc k = omega arith in rw (← i) (sound-at 1 file k v h e)
 
 -- values that are accepted have their rows' sizes
-pub sound-sized : (i : ℕ) (file : File) → soundFrom i file ≡ true → sizedFrom i file ≡ true
-unfolding soundFrom soundValue sizedFrom _and_
+pub sound-sized : (i : ℕ) (file : File) → soundValuesFrom i file ≡ true → sizedFrom i file ≡ true
+unfolding soundValuesFrom soundValue sizedFrom _and_
 sound-sized i [] h = refl
 sound-sized i (none ∷ file) h = sound-sized (suc i) file h
 sound-sized i (some v ∷ file) h =
@@ -193,25 +193,25 @@ current-sized file zero v h e = ap length (some-same (sym e)) ∙ value-size 0 f
 current-sized file (suc k) v h e = let i : 1 + k ≡ suc k = omega arith in rw (← i) (sized-at 1 file k v h e)
 
 module _ (registers : Registers) where
-  pub sound-status : getD (registers .slots) 5 absent .set ≡ false → false ≡ soundFile (fileOf registers)
+  pub sound-status : flagged (getD (registers .slots) 5 absent .set) ≡ false → false ≡ soundFile (fileOf registers)
   unfolding soundFile
   sound-status e =
       sym (and-false _ _ (ap isSome (current-kept registers statusRow (omega arith)) ∙ set-is statusRow _ ∙ e))
 
-  pub sound-rest : getD (registers .slots) 5 absent .set ≡ true → soundFile (fileOf registers) ≡ soundFrom 1 (fileFrom 1 (registers .slots))
+  pub sound-rest : flagged (getD (registers .slots) 5 absent .set) ≡ true → soundFile (fileOf registers) ≡ soundValuesFrom 1 (fileFrom 1 (registers .slots))
   unfolding soundFile _and_ fileOf
   sound-rest e = rw (ap isSome (current-kept registers statusRow (omega arith)) ∙ set-is statusRow _ ∙ e)
 
 -- the loop that looks through the registers, at slot `i`
 module _ (l : List Register) (i : ℕ) where
   pub sound-more : i < length l
-      → soundFrom (i + 1) (fileFrom (i + 1) (drop i l))
-      ≡ (soundValue (i + 1) (valueIn (i + 1) (getD l i absent)) and soundFrom (i + 1 + 1) (fileFrom (i + 1 + 1) (drop (i + 1) l)))
+      → soundValuesFrom (i + 1) (fileFrom (i + 1) (drop i l))
+      ≡ (soundValue (i + 1) (registerValue (i + 1) (getD l i absent)) and soundValuesFrom (i + 1 + 1) (fileFrom (i + 1 + 1) (drop (i + 1) l)))
   unfolding fileFrom
   sound-more lt = simp add-one (rw (drop-cons l i absent lt) (sound-cons _ _ _))
 
-  pub sound-end : length l ≤ i → soundFrom (i + 1) (fileFrom (i + 1) (drop i l)) ≡ true
-  unfolding soundFrom fileFrom
+  pub sound-end : length l ≤ i → soundValuesFrom (i + 1) (fileFrom (i + 1) (drop i l)) ≡ true
+  unfolding soundValuesFrom fileFrom
   sound-end le = rw (drop-of-length-le l le)
 
 -- ---- what owning the registers tells

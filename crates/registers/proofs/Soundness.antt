@@ -13,7 +13,7 @@ use Rattle.answer.specs.declared.Verdict.the-variants.{Pass}
 use Rattle.answer.proofs.Tests.{and-true, and-made}
 use Rattle.registers.specs.Rows.{kindOf, sizeOf, rowOf}
 use Rattle.registers.specs.Values.{contentChecks, valueChecks}
-use Rattle.registers.specs.File.{File, current, withValue, reset, soundFrom, soundValue, soundFile, fileFrom, fileOf, slotsOf}
+use Rattle.registers.specs.File.{File, current, withValue, reset, soundValuesFrom, soundValue, soundFile, fileFrom, fileOf, slotsOf}
 use Rattle.registers.specs.Access.{setChecks, setTo}
 use Rattle.registers.specs.declared.Registers.{Registers}
 use Rattle.registers.proofs.File.{sound-cons, sound-sized, file-written}
@@ -22,7 +22,7 @@ use Rattle.registers.proofs.Access.{settable, set-value, kept-value}
 -- ---- reset
 
 pub reset-sound : soundFile reset ≡ true
-unfolding soundFile soundFrom soundValue current reset withValue valueChecks contentChecks sizeOf kindOf passes isSome pick _and_ _then_ _when_ _unless_
+unfolding soundFile soundValuesFrom soundValue current reset withValue valueChecks contentChecks sizeOf kindOf passes isSome pick _and_ _then_ _when_ _unless_
 reset-sound = refl
 
 -- what `reset` writes
@@ -36,7 +36,7 @@ passing : (i : ℕ) (v : List ℕ) → valueChecks i false v ≡ Pass → soundV
 unfolding soundValue passes
 passing i v h = rw h
 
-pub sound-set : (i : ℕ) (file : File) (k : ℕ) (v : List ℕ) → soundFrom i file ≡ true → valueChecks (i + k) false v ≡ Pass → soundFrom i (set file k (some v)) ≡ true
+pub sound-set : (i : ℕ) (file : File) (k : ℕ) (v : List ℕ) → soundValuesFrom i file ≡ true → valueChecks (i + k) false v ≡ Pass → soundValuesFrom i (set file k (some v)) ≡ true
 sound-set i [] k v h good = h
 sound-set i (x ∷ file) zero v h good =
     sound-cons i (some v) file ∙ and-made _ _ (passing i v (rw add-zero at good)) (and-true _ _ (sym (sound-cons i x file) ∙ h) .1)
@@ -53,7 +53,7 @@ some-set (x ∷ file) zero (suc j) v h = h
 some-set (x ∷ file) (suc k) zero v h = h
 some-set (x ∷ file) (suc k) (suc j) v h = some-set file k j v h
 
--- "Setting a register": the file stays sound
+-- setting a register: the file stays sound
 pub set-sound : (file : File) (kind selector : ℕ) (v : List ℕ) → setChecks kind selector v ≡ Pass → soundFile file ≡ true → soundFile (setTo file kind selector v) ≡ true
 unfolding soundFile setTo current
 set-sound file kind selector v h sound =

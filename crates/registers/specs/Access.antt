@@ -1,4 +1,5 @@
--- Setting and reading a register by type and selector number (document 01, "Registers and parts"), in its order of checks.
+-- Setting and reading a register by type and selector number, each list of checks in the order of its rule.
+-- Both numbers are whole ones, and nothing of them is cut off (rule 5.17).
 use Prim.Native.Nat.{ℕ}
 use mathlib.Core.Bool.{Bool, false}
 use mathlib.Core.List.{List, []}
@@ -12,13 +13,13 @@ use Rattle.registers.specs.Rows.{OfferedFeatures, rowOf, sizeOf, selects
 use Rattle.registers.specs.Values.{valueChecks}
 use Rattle.registers.specs.File.{File, current, withValue}
 
--- "19 (nonzero selector where none is used), 6"
+-- rule 5.15: 19 for a number other than 0 where the type uses no selector, then 6 for one that is not listed
 unfoldable pub selectorChecks : ℕ → ℕ → Verdict
 selectorChecks kind selector =
     Header when eqb (selectorWidth kind) 0 and ltb 0 selector
     then Index unless selects kind selector
 
--- Setting: "20, 26, 19, 6, then length and value as above, place 0"
+-- rule 5.15: setting, which has no effect on another register (rule 5.18)
 unfoldable pub setChecks : ℕ → ℕ → List ℕ → Verdict
 setChecks kind selector v =
     UnknownPart unless listed kind
@@ -26,11 +27,11 @@ setChecks kind selector v =
     then selectorChecks kind selector
     then valueChecks (rowOf kind selector) false v
 
--- the file with the register set
+-- rule 5.15: the file with the register set
 unfoldable pub setTo : File → ℕ → ℕ → List ℕ → File
 setTo file kind selector v = withValue file (rowOf kind selector) v
 
--- Reading into a buffer of `room` bytes: "20, 19, 6, 25, 27"
+-- rule 5.16: reading into a buffer of `room` bytes
 unfoldable pub readChecks : File → ℕ → ℕ → ℕ → Verdict
 readChecks file kind selector room =
     UnknownPart unless listed kind
@@ -43,6 +44,6 @@ unfoldable pub orEmpty : Option (List ℕ) → List ℕ
 orEmpty none = []
 orEmpty (some v) = v
 
--- the bytes that reading gives
+-- rule 5.16: the bytes that reading gives
 unfoldable pub readValue : File → ℕ → ℕ → List ℕ
 readValue file kind selector = orEmpty (current file (rowOf kind selector))

@@ -5,7 +5,7 @@ use mathlib.Core.List.{List, [], _∷_, _++_, map}
 use mathlib.Core.Option.{Option, none, some}
 use lib.ListN.{length, getD, set, take, replicate}
 use lib.Dec.{eqb}
-use Rattle.answer.specs.Tests.{_and_, pick, isSome}
+use Rattle.answer.specs.Tests.{_and_, pick, flagged, isSome}
 use Rattle.answer.specs.Checks.{passes}
 use Rattle.wire.specs.Field.{bytesOf}
 use Rattle.registers.specs.Rows.{statusRow, sizeOf}
@@ -20,7 +20,7 @@ File = List (Option (List ℕ))
 abbrev pub keptCount : ℕ
 keptCount = 14
 
--- what a row shows: "offered features are constant"
+-- what a row shows; that of offered features is constant and not kept (rule 5.7)
 unfoldable pub current : File → ℕ → Option (List ℕ)
 current file zero = some (bytesOf 8 offered)
 current file (suc i) = getD file i none
@@ -34,41 +34,41 @@ withValue file (suc i) v = set file i (some v)
 abbrev pub blank : File
 blank = replicate keptCount none
 
--- "Reset sets status to 0 and unsets all others"
+-- rule 5.6: status is 0, and no other register is set
 unfoldable pub reset : File
 reset = withValue blank statusRow (0 ∷ [])
 
--- a value that setting (for 0x100, loading) accepts, or none
+-- rule 1.12: no value, or one that setting accepts
 unfoldable pub soundValue : ℕ → Option (List ℕ) → Bool
 soundValue i none = true
 soundValue i (some v) = passes (valueChecks i false v)
 
--- "every set register holds a value that setting (for 0x100, loading) accepts", from row `i` on
-unfoldable pub soundFrom : ℕ → File → Bool
-soundFrom i [] = true
-soundFrom i (x ∷ file) = soundValue i x and soundFrom (suc i) file
+-- rule 1.12: each of the registers from row `i` on holds no value, or one that setting accepts
+unfoldable pub soundValuesFrom : ℕ → File → Bool
+soundValuesFrom i [] = true
+soundValuesFrom i (x ∷ file) = soundValue i x and soundValuesFrom (suc i) file
 
--- "status is set, and every set register holds a value that setting accepts"
+-- rule 1.12, of the registers: status is set, and each value is one that setting accepts
 unfoldable pub soundFile : File → Bool
-soundFile file = isSome (current file statusRow) and soundFrom 1 file
+soundFile file = isSome (current file statusRow) and soundValuesFrom 1 file
 
 -- ---- the file that the code's registers are
 
--- the value that a register of row `i` holds; what is kept behind it, or of a register that is not set, means nothing
-unfoldable pub valueIn : ℕ → Register → Option (List ℕ)
-valueIn i r = pick (r .set) (some (take (sizeOf i) (r .bytes))) none
+-- rules 1.13 and 1.14: the value that a register of row `i` holds; what is kept behind it, or of a register that is not set, means nothing
+unfoldable pub registerValue : ℕ → Register → Option (List ℕ)
+registerValue i r = pick (flagged (r .set)) (some (take (sizeOf i) (r .bytes))) none
 
 unfoldable pub fileFrom : ℕ → List Register → File
 fileFrom i [] = []
-fileFrom i (r ∷ rs) = valueIn i r ∷ fileFrom (suc i) rs
+fileFrom i (r ∷ rs) = registerValue i r ∷ fileFrom (suc i) rs
 
 unfoldable pub fileOf : Registers → File
 fileOf registers = fileFrom 1 (registers .slots)
 
--- a register as code writes it: zeros behind the value, and nothing but zeros where it is not set
+-- rule 1.13: a register as code writes it: zeros behind the value, and nothing but zeros where it is not set
 unfoldable pub registerOf : Option (List ℕ) → Register
-registerOf none = record { set = false; bytes = replicate 32 0 }
-registerOf (some v) = record { set = true; bytes = v ++ replicate (32 - length v) 0 }
+registerOf none = record { set = 0; bytes = replicate 32 0 }
+registerOf (some v) = record { set = 1; bytes = v ++ replicate (32 - length v) 0 }
 
 -- the registers that code writes for a file
 unfoldable pub slotsOf : File → List Register

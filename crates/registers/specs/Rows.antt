@@ -1,4 +1,4 @@
--- The rows of the register table (document 01, "Registers and parts"), by rising type and then rising selector.
+-- The rows of the register table (rule 5.2), by rising type and then rising selector.
 use Prim.Native.Nat.{ℕ, zero, suc, _^_}
 use mathlib.Core.Bool.{Bool}
 use mathlib.Core.List.{List, [], _∷_}
@@ -90,6 +90,6 @@ selects kind selector = ltb (rowOf kind selector) rowCount
 unfoldable pub listed : ℕ → Bool
 listed kind = leb OfferedFeatures kind and leb kind NotifyConfig
 
--- how many of the selector's 8 bytes a type uses: "offset in the low 4 bytes", "index 0 to 3, low 2 bytes", or none
+-- rules 5.2 and 5.19: how many of the selector's 8 bytes a type uses, the low ones: 4 of a common field, 2 of queue and notify, else none
 unfoldable pub selectorWidth : ℕ → ℕ
 selectorWidth kind = pick (eqb kind CommonField) 4 (pick (leb QueueConfig kind) 2 0)

@@ -1,4 +1,4 @@
--- What a register's value must satisfy (document 01, "Registers and parts"). Setting, loading and soundness all go by these checks.
+-- What a register's value must satisfy (rules 5.2 to 5.5). Setting, loading and soundness all go by these checks.
 use Prim.Native.Nat.{ℕ, zero, suc, _%_, _^_}
 use mathlib.Core.Bool.{Bool}
 use mathlib.Core.List.{List}
@@ -13,11 +13,11 @@ use Rattle.answer.specs.declared.Verdict.the-variants.{Pass}
 use Rattle.wire.specs.Field.{field}
 use Rattle.registers.specs.Rows.{OfferedFeatures, DriverFeatures, QueueConfig, NotifyConfig, kindOf, sizeOf}
 
--- "8 bytes, 0x130000000"
+-- rule 5.7: the features that the device offers: bits 28, 29 and 32
 abbrev pub offered : ℕ
 offered = 0x130000000
 
--- "only offered bits"
+-- rule 5.5: no bit that is not offered
 unfoldable pub onlyOffered : ℕ → Bool
 onlyOffered features = eqb (bitAnd features offered) features
 
@@ -26,8 +26,8 @@ unfoldable pub powerOfTwo : ℕ → ℕ → Bool
 powerOfTwo zero n = eqb n 1
 powerOfTwo (suc k) n = eqb n (2 ^ suc k) or powerOfTwo k n
 
--- "32 bytes: size, vector, enabled, reserved (2 each), three addresses (8 each)": "Queue size is a power of two from 1 to 256,
--- enabled is 0 or 1, reserved 0, and the addresses are multiples of 16, 2 and 4"
+-- rule 5.3: size, vector (any), enabled and reserved of 2 bytes each, then the addresses of descriptors, driver area and device area of 8
+-- each; their alignments are 16, 2 and 4
 unfoldable pub validQueue : List ℕ → Bool
 validQueue v =
     powerOfTwo 8 (field v 0 2)
@@ -37,11 +37,11 @@ validQueue v =
     and eqb (field v 16 8 % 2) 0
     and eqb (field v 24 8 % 4) 0
 
--- "8 bytes: two of 2, then 4 reserved": "Notify's reserved bytes must be 0"
+-- rule 5.4: the last 4 of the 8 bytes are reserved
 unfoldable pub validNotify : List ℕ → Bool
 validNotify v = eqb (field v 4 4) 0
 
--- the rule of a type for a value of the right size; any value is good for the others
+-- the rule of a type for a value of the right size; any value is good for the others. Offered features are judged in loading (rule 5.10).
 unfoldable pub contentChecks : ℕ → List ℕ → Verdict
 contentChecks kind v =
     pick (eqb kind OfferedFeatures) (Mismatch unless eqb (field v 0 8) offered)
@@ -50,8 +50,8 @@ contentChecks kind v =
     (pick (eqb kind NotifyConfig) (Value unless validNotify v)
     Pass)))
 
--- A value for a row, which a stream names a second time where `twice` holds: "wrong length (22); same type and selector seen before
--- (21); then the value: 22 before 23, and 0x100 with another value is 23".
+-- A value for a row, which a stream names a second time where `twice` holds. Rule 5.10: its length (22) is judged before that (21), and
+-- what it holds (22 or 23) behind it.
 unfoldable pub valueChecks : ℕ → Bool → List ℕ → Verdict
 valueChecks i twice v =
     Value unless eqb (length v) (sizeOf i)

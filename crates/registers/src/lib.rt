@@ -12,14 +12,14 @@ ghost use Rattle.answer.specs.declared.Verdict.the-variants.{Pass};
 ghost use Rattle.wire.specs.Field.{bytesOf};
 ghost use Rattle.registers.specs.Rows.{CommonField, rowCount, kindOf, selectorOf, sizeOf, rowOf, listed, selectorWidth};
 ghost use Rattle.registers.specs.Values.{offered as offeredBits, onlyOffered, powerOfTwo, validQueue, contentChecks, valueChecks};
-ghost use Rattle.registers.specs.File.{current as currentIn, blank as blankFile, reset as resetFile, soundValue, soundFile, valueIn, fileOf, registerOf, slotsOf};
+ghost use Rattle.registers.specs.File.{current as currentIn, blank as blankFile, reset as resetFile, soundValue, soundFile, registerValue, fileOf, registerOf, slotsOf};
 ghost use Rattle.registers.specs.Access.{selectorChecks, setChecks, readChecks, readValue};
 
-// One register: whether it is set, and its value at the start of `bytes`. Bytes past the value's size, and all bytes of a register
-// that is not set, mean nothing.
+// One register: it is set where `set` is 1, and no other value of that byte says so; its value stands at the start of `bytes`. Bytes
+// past the value's size, and all bytes of a register that is not set, mean nothing.
 #[repr(C)]
 pub struct Register {
-    pub set: bool,
+    pub set: u8,
     pub bytes: [u8; 32],
 }
 
@@ -29,6 +29,9 @@ pub struct Register {
 pub struct Registers {
     pub slots: [Register; SLOTS],
 }
+
+// What the byte `set` of a register that is set holds.
+pub const SET: u8 = 1;
 
 // ---- the table of registers
 
@@ -260,7 +263,7 @@ pub fn unset() -> Register
     ensures { λ r. ⌜ r ≡ registerOf none ⌝ }
 {
     Register {
-        set: false,
+        set: 0,
         bytes: [0u8; 32],
     }
 }
@@ -272,7 +275,7 @@ fn holding_bytes(v: &[u8], n: usize) -> Register
 {
     let mut bytes = [0u8; 32];
     wire::copy(&mut bytes, 0, v, 0, n);
-    Register { set: true, bytes }
+    Register { set: SET, bytes }
 }
 
 // A register that holds the value `v`, with zeros behind it. A size that is written out is copied by a load and a store.
@@ -297,13 +300,13 @@ pub fn offered() -> Register
 {
     let mut bytes = [0u8; 32];
     wire::put_u64(&mut bytes, 0, OFFERED);
-    Register { set: true, bytes }
+    Register { set: SET, bytes }
 }
 
 // The register that a row shows.
 pub fn current(registers: Registers, row: usize) -> Register
     requires { ⌜ row < rowCount ⌝ }
-    ensures { λ r. ⌜ (valueIn row r ≡ currentIn (fileOf registers) row) × (length (r .bytes) ≡ 32) ⌝ }
+    ensures { λ r. ⌜ (registerValue row r ≡ currentIn (fileOf registers) row) × (length (r .bytes) ≡ 32) ⌝ }
 {
     if row == 0 {
         return offered();
@@ -325,9 +328,9 @@ fn passes(verdict: Verdict) -> bool
 // Whether a register is not set, or holds a value that setting accepts.
 fn is_sound(row: usize, r: Register) -> bool
     requires { ⌜ (row < rowCount) × (length (r .bytes) ≡ 32) ⌝ }
-    ensures { λ x. ⌜ x ≡ soundValue row (valueIn row r) ⌝ }
+    ensures { λ x. ⌜ x ≡ soundValue row (registerValue row r) ⌝ }
 {
-    if !r.set {
+    if r.set != SET {
         return true;
     }
     let size = size_of(row);
@@ -341,7 +344,7 @@ pub fn sound(registers: Registers) -> bool
 {
     let slots = registers.slots;
     let status = slots[STATUS_ROW - 1];
-    if !status.set {
+    if status.set != SET {
         return false;
     }
     let mut i: usize = 0;
@@ -430,7 +433,7 @@ pub fn check_read(registers: Registers, kind: u64, selector: u64, room: usize) -
         Verdict::Pass => {
             let row = row_of(kind, selector);
             let r = current(registers, row);
-            if !r.set {
+            if r.set != SET {
                 return Verdict::Fail(answer::UNSET, 0);
             }
             if room < size_of(row) {

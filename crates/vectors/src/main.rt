@@ -1,5 +1,5 @@
-// The worked values of document 01, starred and not, run on the emulator and printed as docs/session-format.md has it, without line
-// numbers: the lines of sessions/worked-values.session.
+// The worked values of rules 7.1 to 7.13, run on the emulator and printed as docs/session-format.md has it, without line numbers: the
+// lines of sessions/worked-values.session.
 use address::DeviceAddress;
 use address::MemoryAddress;
 use answer::Answer;
@@ -85,7 +85,7 @@ fn nothing() -> State {
             count: 0,
         },
         registers: registers::reset(),
-        running: false,
+        running: 0,
     }
 }
 
@@ -137,7 +137,7 @@ fn power_on(state: State, bytes: &[u8], shadow: &mut [u8]) -> State {
     r.state
 }
 
-// "Reset card saved", and the streams.
+// Rules 7.2 to 7.5: a reset device saved, and three streams.
 fn parts(state: State) {
     let mut buf = [GARBAGE; 41];
     let answer = emulator::save_parts(state, &mut buf);
@@ -153,13 +153,13 @@ fn parts(state: State) {
     );
 }
 
-// "Map at 2^48 - 4,096": too long, and not.
+// Rules 7.7 and 7.6: the last page, too long and not.
 fn last_page(fresh: State, bytes: &[u8], shadow: &[u8]) -> State {
     let refused = map(fresh, bytes, shadow, 0xfffffffff000, 8192);
     map(refused, bytes, shadow, 0xfffffffff000, 4096)
 }
 
-// "Mappings [0, 8192) and [8192, 12288)", cut and removed; "Size 0 at address 1"
+// Rules 7.8 to 7.10: two mappings, cut and removed; a map of no bytes at an unaligned address.
 fn two_mappings(fresh: State, bytes: &[u8], shadow: &[u8]) -> State {
     let one = map(fresh, bytes, shadow, 0, 8192);
     let two = map(one, bytes, shadow, 8192, 4096);
@@ -168,7 +168,7 @@ fn two_mappings(fresh: State, bytes: &[u8], shadow: &[u8]) -> State {
     map(empty, bytes, shadow, 1, 0)
 }
 
-// "Queue size 3"
+// Rule 7.11: a queue of size 3.
 fn queue(state: State) {
     let mut v = [0u8; 32];
     wire::put_u16(&mut v, 0, 3);
@@ -177,7 +177,7 @@ fn queue(state: State) {
     print(answer, b"");
 }
 
-// "Read of two bytes, the second unwritten"
+// Rule 7.12: the second of two bytes is not written.
 fn half_written(start: State, bytes: &mut [u8], shadow: &mut [u8]) {
     let state = map(start, bytes, shadow, 0, 4096);
     let stored = emulator::host_write(state, bytes, shadow, MemoryAddress(0), b"\x5a");

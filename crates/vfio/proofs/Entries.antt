@@ -16,8 +16,8 @@ use Rattle.answer.specs.Checks.{_then_, _when_}
 use Rattle.answer.specs.declared.Verdict.the-variants.{Pass, Fail}
 use Rattle.answer.proofs.Tests.{below, below-at, pick-true}
 use Rattle.answer.proofs.Checks.{never, then-pass, when-pass}
-use Rattle.emulator.specs.Requests.{Entry, requests, entryIn, identify, argszChecks}
-use Rattle.vfio.specs.Entries.{requestCount, noEntry, entryOf, entryAt, sizeChecks}
+use Rattle.emulator.specs.Requests.{Entry, requests, entryIn, identify, argszChecks, sizeChecks}
+use Rattle.vfio.specs.Entries.{requestCount, noEntry, entryOf, entryAt}
 
 -- ---- the columns of the table, as the code reads them
 

@@ -15,7 +15,7 @@ use Rattle.answer.specs.declared.Verdict.the-variants.{Pass, Fail}
 use Rattle.answer.proofs.Checks.{unless-true, unless-false}
 use Rattle.address.specs.Address.{deviceAddress}
 use Rattle.wire.specs.Field.{field, bytesOf}
-use Rattle.iommu.specs.Table.{inside, insert, without, sizeOf, inUse, holding}
+use Rattle.iommu.specs.Table.{inside, insert, without, totalSize, inUse, holding}
 use Rattle.iommu.specs.Requests.{mapChecks, unmapChecks}
 use Rattle.iommu.specs.declared.Mapping.{Mapping}
 use Rattle.iommu.specs.declared.Table.{Table}
@@ -26,7 +26,7 @@ use Rattle.registers.specs.declared.Registers.{Registers}
 use Rattle.emulator.specs.Machine.{Emulator, machineOf, emulatorOf, withMappings, withRegisters}
 use Rattle.emulator.specs.Effect.{Result, value, Piece, output, reporting, writing, effectOf, outcomeOf, filled}
 use Rattle.emulator.specs.Requests.{Request, getApiVersion, checkExtension, mapDma, unmapDma, getRegionInfo, getIrqInfo, resetDevice, Region, region, regions, regionAt, Interrupt, interrupt, interrupts, interruptAt, requestedMapping, requestedStart, requestedSize, requestedIndex, type1v2, listedChecks, listedEffect}
-use Rattle.emulator.specs.Contract.{nothing, requestWrites, withTableIn, withRegistersIn, written, returned}
+use Rattle.emulator.specs.Contract.{nothing, requestWrites, withTableIn, withRegistersIn, stateWith, returned}
 use Rattle.emulator.specs.declared.State.{State}
 use Rattle.vfio.specs.Entries.{entryOf}
 use Rattle.vfio.specs.Handlers.{handled, Handles, Answers, Replies}
@@ -40,7 +40,7 @@ module _ (q : Request) (buf : List ℕ) (s : State) (m : Memory) where
 
   pub handled-done : (buf′ : List ℕ) (s′ : State) → listedChecks q buf (emulatorOf s m) ≡ Pass
       → buf′ ≡ filled (listedEffect q buf (emulatorOf s m) .pieces) buf
-      → s′ ≡ written (requestWrites q) (listedEffect q buf (emulatorOf s m) .machine) s
+      → s′ ≡ stateWith (requestWrites q) (listedEffect q buf (emulatorOf s m) .machine) s
       → Handles q buf s m (done (listedEffect q buf (emulatorOf s m) .result)) buf′ s′
   unfolding handled outcomeOf effectOf settle returned
   handled-done buf′ s′ e f g = record { answer = rw e; buffer = rw e f; state = rw e g }
@@ -49,7 +49,7 @@ module _ (q : Request) (buf : List ℕ) (s : State) (m : Memory) where
 pub reports : (q : Request) (buf buf′ : List ℕ) (n : ℕ) (ps : List Piece) → ((e : Emulator) → listedChecks q buf e ≡ Pass)
     → ((e : Emulator) → listedEffect q buf e ≡ reporting n ps (e .machine)) → requestWrites q ≡ nothing → buf′ ≡ filled ps buf
     → Answers q buf (done (value n)) buf′
-unfolding handled outcomeOf effectOf settle returned written
+unfolding handled outcomeOf effectOf settle returned stateWith
 reports q buf buf′ n ps pass effect none f = λ s m.
     record {
       answer = rw (pass (emulatorOf s m), effect (emulatorOf s m));
@@ -131,7 +131,7 @@ module _ (buf : List ℕ) (s : State) where
 
     pub map-done : (t : Table) → v ≡ Pass → t ≡ holding (insert mapping (inUse (s .table))) (s .table)
         → Replies mapDma buf s (done (value 0)) buf (withTableIn t s)
-    unfolding listedEffect emulatorOf machineOf withMappings requestWrites written filled
+    unfolding listedEffect emulatorOf machineOf withMappings requestWrites stateWith filled
     map-done t e f = λ m noted.
         handled-done mapDma buf s m buf _ (map-verdict m noted ∙ e) refl (rw (← is) (ap (λ (t : Table). withTableIn t s) f))
 
@@ -146,16 +146,16 @@ module _ (buf : List ℕ) (s : State) where
     unmap-refused code place e = λ m noted. handled-refused unmapDma buf s m code place (unmap-verdict m ∙ e)
 
     pub unmap-done : (buf′ : List ℕ) (t : Table) (sum : ℕ) → v ≡ Pass → t ≡ holding (without (inside (deviceAddress a) n) (inUse (s .table))) (s .table)
-        → sum ≡ sizeOf (inside (deviceAddress a) n) (inUse (s .table)) → buf′ ≡ sets buf 16 (bytesOf 8 sum)
+        → sum ≡ totalSize (inside (deviceAddress a) n) (inUse (s .table)) → buf′ ≡ sets buf 16 (bytesOf 8 sum)
         → Replies unmapDma buf s (done (value 0)) buf′ (withTableIn t s)
-    unfolding listedEffect emulatorOf machineOf withMappings requestWrites written filled requestedStart requestedSize
+    unfolding listedEffect emulatorOf machineOf withMappings requestWrites stateWith filled requestedStart requestedSize
     unmap-done buf′ t sum e f g h = λ m noted.
         handled-done unmapDma buf s m buf′ _ (unmap-verdict m ∙ e)
         (h ∙ rw (← start-is, ← size-is) (ap (λ (x : ℕ). sets buf 16 (bytesOf 8 x)) g))
         (rw (← start-is, ← size-is) (ap (λ (t : Table). withTableIn t s) f))
 
   pub reset-done : (r : Registers) → r .slots ≡ slotsOf reset → Replies resetDevice buf s (done (value 0)) buf (withRegistersIn r s)
-  unfolding listedChecks listedEffect emulatorOf machineOf withRegisters requestWrites written filled
+  unfolding listedChecks listedEffect emulatorOf machineOf withRegisters requestWrites stateWith filled
   reset-done r e = λ m noted.
       handled-done resetDevice buf s m buf _ refl refl (ap (λ (l : List Register). withRegistersIn (record { slots = l }) s) e)
 

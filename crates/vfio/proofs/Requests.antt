@@ -12,25 +12,25 @@ use Rattle.answer.proofs.Checks.{then-assoc, then-fail, then-next}
 use Rattle.memory.specs.Memory.{Memory, edited}
 use Rattle.emulator.specs.Machine.{Emulator, both, usable, emulatorOf}
 use Rattle.emulator.specs.Effect.{Result, effectOf, outcomeOf}
-use Rattle.emulator.specs.Requests.{Request, getApiVersion, checkExtension, getIommuInfo, mapDma, unmapDma, getInfo, getRegionInfo, getIrqInfo, resetDevice, Entry, identify, listedChecks, requestChecks, listedEffect, requestEffect}
+use Rattle.emulator.specs.Requests.{Request, getApiVersion, checkExtension, getIommuInfo, mapDma, unmapDma, getInfo, getRegionInfo, getIrqInfo, resetDevice, Entry, identify, listedChecks, requestChecks, listedEffect, requestEffect, sizeChecks}
 use Rattle.emulator.specs.Calls.{request, given, ownChecks, checks, effect, outcome}
 use Rattle.emulator.specs.Contract.{entryWrites, requestWrites, writes, Meets}
 use Rattle.emulator.specs.declared.State.{State}
 use Rattle.emulator.proofs.Meets.{refused-by}
-use Rattle.vfio.specs.Entries.{entryOf, entryAt, sizeChecks}
+use Rattle.vfio.specs.Entries.{entryOf, entryAt}
 use Rattle.vfio.specs.Handlers.{handled, Handles}
 use Rattle.vfio.proofs.Entries.{size-passed, entry-at}
 
 -- ---- checks 2, 3 and 4 come before what is listed
 
 size-refuses : (o : Option Entry) (buf : List ℕ) (e : Emulator) (code place : ℕ) → sizeChecks o buf ≡ Fail code place → requestChecks o buf e ≡ Fail code place
-unfolding sizeChecks requestChecks
+unfolding requestChecks
 size-refuses none buf e code place h = h
-size-refuses (some r) buf e code place h = sym (then-assoc _ _ _) ∙ then-fail _ _ code place h
+size-refuses (some r) buf e code place h = then-fail _ _ code place h
 
 size-passes : (r : Entry) (buf : List ℕ) (e : Emulator) → sizeChecks (some r) buf ≡ Pass → requestChecks (some r) buf e ≡ listedChecks (r .request) buf e
-unfolding sizeChecks requestChecks
-size-passes r buf e h = sym (then-assoc _ _ _) ∙ then-next _ _ h
+unfolding requestChecks
+size-passes r buf e h = then-next _ _ h
 
 -- ---- no request edits memory
 

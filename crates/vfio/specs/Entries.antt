@@ -1,4 +1,4 @@
--- The table of requests by index, as the code searches it, and the checks that need no more than an entry and the buffer.
+-- The table of requests by index, as the code searches it.
 use Prim.Native.Nat.{ℕ}
 use mathlib.Core.Bool.{false}
 use mathlib.Core.List.{List, []}
@@ -6,11 +6,7 @@ use mathlib.Core.Option.{Option, none, some}
 use lib.ListN.{length, getD}
 use lib.Dec.{ltb}
 use Rattle.answer.specs.Tests.{pick}
-use Rattle.answer.specs.Codes.{NoSuchRequest, Short}
-use Rattle.answer.specs.Checks.{_then_, _when_}
-use Rattle.answer.specs.declared.Verdict.{Verdict}
-use Rattle.answer.specs.declared.Verdict.the-variants.{Fail}
-use Rattle.emulator.specs.Requests.{getApiVersion, Entry, entry, requests, argszChecks}
+use Rattle.emulator.specs.Requests.{getApiVersion, Entry, entry, requests}
 
 abbrev pub requestCount : ℕ
 requestCount = 9
@@ -25,10 +21,3 @@ entryOf i = getD requests i noEntry
 -- the entry at an index, if there is one
 unfoldable pub entryAt : ℕ → Option Entry
 entryAt i = pick (ltb i requestCount) (some (entryOf i)) none
-
--- checks 2, 3 and 4: all of `requestChecks` but what is listed for the request
-unfoldable pub sizeChecks : Option Entry → List ℕ → Verdict
-sizeChecks none buf = Fail NoSuchRequest 0
-sizeChecks (some r) buf =
-    Short when ltb (length buf) (r .size)
-    then argszChecks (r .argsz) (r .size) buf

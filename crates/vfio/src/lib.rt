@@ -12,11 +12,10 @@ ghost use Prim.Native.Nat.{_≤_};
 ghost use lib.ListN.{length};
 ghost use Rattle.answer.specs.declared.Verdict.the-variants.{Pass};
 ghost use Rattle.iommu.specs.Table.{Sound};
-ghost use Rattle.memory.specs.Memory.{memoryOf};
-ghost use Rattle.emulator.specs.Requests.{checkExtension, getIommuInfo, mapDma, unmapDma, getInfo, getRegionInfo, getIrqInfo, resetDevice, requestedMapping, argszChecks, identify as identified};
+ghost use Rattle.emulator.specs.Requests.{checkExtension, getIommuInfo, mapDma, unmapDma, getInfo, getRegionInfo, getIrqInfo, resetDevice, requestedMapping, argszChecks, identify as identified, sizeChecks};
 ghost use Rattle.emulator.specs.Calls as calls;
-ghost use Rattle.emulator.specs.Contract.{Meets, told};
-ghost use Rattle.vfio.specs.Entries.{requestCount, entryOf, entryAt, sizeChecks};
+ghost use Rattle.emulator.specs.Contract.{Meets, lentMemory, told};
+ghost use Rattle.vfio.specs.Entries.{requestCount, entryOf, entryAt};
 ghost use Rattle.vfio.specs.Handlers.{Answers, Replies};
 
 // ---- the table of requests
@@ -338,7 +337,7 @@ pub fn request(
     number: u32,
     buf: &mut [u8],
 ) -> Reply
-    ensures { λ r. ⌜ Meets (calls.request target number) (now (buf .entry)) state (memoryOf (now (bytes .entry)) (now (shadow .entry))) (told (r .answer)) (now (buf .exit)) (memoryOf (now (bytes .entry)) (now (shadow .entry))) (r .state) ⌝ }
+    ensures { λ r. ⌜ Meets (calls.request target number) (now (buf .entry)) state (lentMemory bytes shadow) (told (r .answer)) (now (buf .exit)) (lentMemory bytes shadow) (r .state) ⌝ }
 {
     if !emulator::usable(state, bytes, shadow) {
         return Reply {

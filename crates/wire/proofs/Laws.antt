@@ -6,7 +6,7 @@ use mathlib.Core.Path.{_≡_, refl, sym, _∙_, ap}
 use mathlib.Core.List.{List, [], _∷_, _++_, append-nil}
 use lib.ListN.{length, getD, set, drop, replicate, length-set, length-drop, drop-of-length-le}
 use lib.Seq.{sets, sets-eq, length-take-le, drop-cons, getD-drop, getD-set-other, getD-set-same}
-use Rattle.wire.specs.Field.{field, bytesOf, part}
+use Rattle.wire.specs.Field.{field, bytesOf, slice}
 
 -- ---- bounds
 
@@ -99,7 +99,7 @@ put-more l at width i y h =
 -- ---- loops that copy and fill, the first byte first
 
 pub copy-more : (l src : List ℕ) (to from n i : ℕ) → i < n → from + n ≤ length src
-    → sets l (to + i) (part src (from + i) (n - i)) ≡ sets (set l (to + i) (getD src (from + i) 0)) (to + (i + 1)) (part src (from + (i + 1)) (n - (i + 1)))
+    → sets l (to + i) (slice src (from + i) (n - i)) ≡ sets (set l (to + i) (getD src (from + i) 0)) (to + (i + 1)) (slice src (from + (i + 1)) (n - (i + 1)))
 copy-more l src to from n i h room =
     let e : n - i ≡ suc (n - (i + 1)) = omega arith in
     let f : suc (to + i) ≡ to + (i + 1) = omega arith in
@@ -120,7 +120,7 @@ sets-append l o [] ys = rw (add-zero o)
 sets-append l o (x ∷ xs) ys = rw (add-suc o (length xs), ← suc-add o (length xs)) (sets-append (set l o x) (suc o) xs ys)
 
 -- a part has the length asked for
-pub length-part : (l : List ℕ) (o n : ℕ) → o + n ≤ length l → length (part l o n) ≡ n
+pub length-part : (l : List ℕ) (o n : ℕ) → o + n ≤ length l → length (slice l o n) ≡ n
 length-part l o n h = length-take-le n (drop o l) (omega (arith, length-drop o l))
 
 -- a run over the whole list

@@ -1,4 +1,4 @@
--- Little-endian fields, over any width (document 01: "Numbers are little-endian").
+-- Little-endian fields (rule 1.1), over any width (rule 8.6).
 use Prim.Native.Nat.{ℕ, zero, suc, _+_, _*_, _/_, _%_}
 use mathlib.Core.List.{List, [], _∷_}
 use lib.ListN.{getD, take, drop}
@@ -14,5 +14,5 @@ bytesOf zero x = []
 bytesOf (suc width) x = x % 256 ∷ bytesOf width (x / 256)
 
 -- the `n` bytes from offset `at` on
-abbrev pub part : List ℕ → ℕ → ℕ → List ℕ
-part bytes at n = take n (drop at bytes)
+abbrev pub slice : List ℕ → ℕ → ℕ → List ℕ
+slice bytes at n = take n (drop at bytes)

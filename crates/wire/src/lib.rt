@@ -3,7 +3,7 @@ ghost use mathlib.Core.Path.{_≡_};
 ghost use Prim.Native.Nat.{_+_, _≤_};
 ghost use lib.ListN.{length, replicate};
 ghost use lib.Seq.{sets};
-ghost use Rattle.wire.specs.Field.{field, bytesOf, part};
+ghost use Rattle.wire.specs.Field.{field, bytesOf, slice};
 
 // A field is read as its two halves, down to bytes: the compiler makes one load of that, and none of a loop over the bytes.
 pub fn get_u8(s: &[u8], at: usize) -> u8
@@ -85,7 +85,7 @@ pub fn put_u64(buf: &mut [u8], at: usize, x: u64)
 // Copies `n` bytes of `src` from `from` on to `dst` from `to` on. A loop by index, which the compiler vectorises.
 pub fn copy(dst: &mut [u8], to: usize, src: &[u8], from: usize, n: usize)
     requires { ⌜ (to + n ≤ length (now dst)) × (from + n ≤ length (now src)) ⌝ }
-    ensures { λ r. ⌜ now (dst .exit) ≡ sets (now (dst .entry)) to (part (now (src .entry)) from n) ⌝ }
+    ensures { λ r. ⌜ now (dst .exit) ≡ sets (now (dst .entry)) to (slice (now (src .entry)) from n) ⌝ }
 {
     let mut i: usize = 0;
     while i < n {

@@ -66,11 +66,11 @@ const STATUS: usize = 5;
 
 fn sound_registers(registers: &Registers) -> bool {
     let slots = &registers.slots;
-    slots[STATUS].set
+    slots[STATUS].is_set()
         && slots
             .iter()
             .enumerate()
-            .all(|(slot, r)| !r.set || good_content(slot + 1, &r.bytes).is_ok())
+            .all(|(slot, r)| !r.is_set() || good_content(slot + 1, &r.bytes).is_ok())
 }
 
 fn usable(state: &State, memory: &[u8], marks: &[u8]) -> bool {
@@ -431,11 +431,11 @@ pub fn save_parts(state: &State, buffer: &mut [u8]) -> Answer<u64> {
     if !sound(state) {
         return refuse(1);
     }
-    if state.running {
+    if state.is_running() {
         return refuse(17);
     }
     let slots = &state.registers.slots;
-    let set = |row: usize| row == 0 || slots[row - 1].set;
+    let set = |row: usize| row == 0 || slots[row - 1].is_set();
     let length: usize = (0..ROWS)
         .filter(|row| set(*row))
         .map(|row| HEADER + TABLE[row].2)
@@ -469,7 +469,7 @@ pub fn load_parts(state: &mut State, stream: &[u8]) -> Answer<u64> {
     if !sound(state) {
         return refuse(1);
     }
-    if state.running {
+    if state.is_running() {
         return refuse(17);
     }
     if stream.len() > TRANSFER_LIMIT {
@@ -496,7 +496,7 @@ pub fn load_parts(state: &mut State, stream: &[u8]) -> Answer<u64> {
         let seen = if row == 0 {
             offered_seen
         } else {
-            loaded.slots[row - 1].set
+            loaded.slots[row - 1].is_set()
         };
         if seen {
             return at(21, start);
@@ -507,10 +507,10 @@ pub fn load_parts(state: &mut State, stream: &[u8]) -> Answer<u64> {
         } else {
             let mut bytes = [0; 32];
             bytes[..size].copy_from_slice(part.value);
-            loaded.slots[row - 1] = Register { set: true, bytes };
+            loaded.slots[row - 1] = Register { set: 1, bytes };
         }
     }
-    if !loaded.slots[STATUS].set {
+    if !loaded.slots[STATUS].is_set() {
         return at(24, stream.len() as u64);
     }
     state.registers = loaded;

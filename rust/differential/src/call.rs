@@ -77,8 +77,8 @@ pub struct Made {
 }
 
 impl Call {
-    /// Whether document 01 calls the buffer's byte at this offset stale: "all buffer bytes but
-    /// input fields, bytes to store, register values to set and streams".
+    /// Whether the buffer's byte at this offset is stale (rule 3.7): no input field, byte to store,
+    /// value to set or stream.
     pub fn is_stale(&self, offset: usize) -> bool {
         let input = match *self {
             Call::Request { target, number } => match (target, number) {
@@ -170,7 +170,7 @@ impl fmt::Display for Shown<'_> {
         }
         write!(f, ", registers")?;
         for (slot, register) in state.registers.slots.iter().enumerate() {
-            if register.set {
+            if register.is_set() {
                 write!(f, " {slot}:{}", Hex(&register.bytes))?;
             }
         }

@@ -11,7 +11,7 @@ const PAGE: u64 = 4096;
 const TOP: u64 = 1 << 48;
 const MEMORY_LIMIT: u64 = 1 << 30;
 
-/// The causes, as document 01 lists what a sound state is.
+/// The causes: what rule 1.12 rules out.
 #[rustfmt::skip]
 pub const CAUSES: [&str; 19] = [
     "more than 64 mappings",
@@ -127,17 +127,17 @@ pub fn damaged(sound: &State, random: &mut Random) -> (usize, State) {
         "noted length above 2^30" => {
             state.memory_length = random.pick(&[MEMORY_LIMIT + 1, MEMORY_LIMIT + PAGE, u64::MAX]);
         }
-        "status not set" => state.registers.slots[5].set = false,
+        "status not set" => state.registers.slots[5].set = random.pick(&[0, 2, 3, 129, 255]),
         "driver features not offered" => {
             let register = &mut state.registers.slots[0];
-            register.set = true;
+            register.set = 1;
             let features = random.number() | 1 << random.pick(&[0, 27, 30, 31, 33, 63]);
             register.bytes[..8].copy_from_slice(&features.to_le_bytes());
         }
         "queue value" => {
             let slot = 6 + random.below(4) as usize;
             let register = &mut state.registers.slots[slot];
-            register.set = true;
+            register.set = 1;
             let mut value = streams::good_value(0x104, 32, random);
             // Of the ways to spoil it, those that leave it good are left out.
             match random.below(6) {
@@ -153,7 +153,7 @@ pub fn damaged(sound: &State, random: &mut Random) -> (usize, State) {
         "notify value" => {
             let slot = 10 + random.below(4) as usize;
             let register = &mut state.registers.slots[slot];
-            register.set = true;
+            register.set = 1;
             register.bytes[4 + random.below(4) as usize] = random.pick(&[1, 128]);
         }
         _ => unreachable!(),

@@ -1,9 +1,10 @@
-//! What must happen in a run beyond the pairs: the cases that the paper warns of, and the edges at
+//! What must happen in a run beyond the pairs: the cases that are easily got wrong, and the edges at
 //! which a call is still accepted.
 
 use std::fmt::Write;
 
 use glint_reference::bytes::number_at;
+use glintbasket::raw::SLOTS;
 
 use crate::call::{Answer, Call, Made, Step};
 use crate::trio::Trio;
@@ -12,7 +13,7 @@ const TOP: u64 = 1 << 48;
 const LONGEST: usize = 65_536;
 
 #[rustfmt::skip]
-pub const EVENTS: [&str; 24] = [
+pub const EVENTS: [&str; 26] = [
     "card read of 65,536 bytes accepted",
     "card write of 65,536 bytes accepted",
     "host store of 65,536 bytes accepted",
@@ -37,6 +38,8 @@ pub const EVENTS: [&str; 24] = [
     "container 101 with 3 gives 1",
     "container 101 with another number gives 0",
     "host load of a byte with a mark above 1 gives 16",
+    "save of a state whose byte for running is above 1 accepted",
+    "read of a register whose byte for set is above 1 gives 25",
 ];
 
 #[derive(Default)]
@@ -56,6 +59,9 @@ pub struct Before {
     encloses: bool,
     /// Of a map: how many held mappings lie below it.
     below: usize,
+    /// The flags of the kept struct: whether the one for running is above 1, and whether each register's is.
+    running_above: bool,
+    set_above: [bool; SLOTS.len()],
 }
 
 impl Events {
@@ -64,6 +70,8 @@ impl Events {
         let mut before = Before {
             held: state.mappings.len(),
             registers: state.registers.len(),
+            running_above: trio.kept().running > 1,
+            set_above: trio.kept().registers.slots.map(|r| r.set > 1),
             ..Before::default()
         };
         let Step::Make(made) = step else {
@@ -182,7 +190,17 @@ impl Events {
                 self.saw(18, done && length == LONGEST);
                 self.saw(19, done && trio.state.registers.len() < before.registers);
             }
-            Call::SaveParts => self.saw(20, *answer == Answer::Done(length as u64)),
+            Call::SaveParts => {
+                self.saw(20, *answer == Answer::Done(length as u64));
+                self.saw(24, done && before.running_above);
+            }
+            Call::ReadRegister { kind, selector } => {
+                let slot = SLOTS
+                    .iter()
+                    .position(|(k, s, _)| (*k, *s) == (kind, selector));
+                let above = slot.is_some_and(|i| before.set_above[i]);
+                self.saw(25, refused == 25 && above);
+            }
             _ => {}
         }
     }

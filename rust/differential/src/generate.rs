@@ -167,7 +167,7 @@ impl Generator {
         let random = &mut self.random;
         let mut state = State {
             memory_length: trio.state.noted_length.min(trio.capacity() as u64),
-            running: random.one_in(8),
+            running: u8::from(random.one_in(8)),
             ..State::default()
         };
         let pages = state.memory_length / PAGE;
@@ -205,7 +205,7 @@ impl Generator {
                 let value = streams::good_value(*kind, *length, random);
                 let mut bytes = [0; 32];
                 bytes[..*length].copy_from_slice(&value);
-                *register = Register { set: true, bytes };
+                *register = Register { set: 1, bytes };
             }
         }
         garble(&mut state, random);

@@ -24,14 +24,14 @@ pub fn meaning(state: &State) -> bench::State {
     }
     let mut registers = Registers::new();
     for ((kind, selector, length), register) in SLOTS.iter().zip(&state.registers.slots) {
-        if register.set {
+        if register.is_set() {
             registers.insert((*kind, *selector), register.bytes[..*length].to_vec());
         }
     }
     bench::State {
         noted_length: state.memory_length,
         mappings,
-        running: state.running,
+        running: state.is_running(),
         registers,
     }
 }
@@ -42,9 +42,9 @@ pub fn means(state: &State, other: &bench::State) -> bool {
     if table.count > MAPPINGS {
         return meaning(state) == *other;
     }
-    let registers = state.registers.slots.iter().filter(|r| r.set).count();
+    let registers = state.registers.slots.iter().filter(|r| r.is_set()).count();
     state.memory_length == other.noted_length
-        && state.running == other.running
+        && state.is_running() == other.running
         && table.count == other.mappings.len()
         && table.entries[..table.count]
             .iter()
@@ -54,7 +54,7 @@ pub fn means(state: &State, other: &bench::State) -> bool {
         && SLOTS
             .iter()
             .zip(&state.registers.slots)
-            .filter(|(_, register)| register.set)
+            .filter(|(_, register)| register.is_set())
             .all(|((kind, selector, length), register)| {
                 other.registers.get(&(*kind, *selector)).map(Vec::as_slice)
                     == Some(&register.bytes[..*length])

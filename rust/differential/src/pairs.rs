@@ -1,5 +1,5 @@
-//! Which answers document 01 allows each call, as data from the paper. Every pair must occur, and
-//! no other may.
+//! Which answers the rules (docs/RULES.md) allow each call, as data. Every pair must occur, and no
+//! other may.
 
 use std::fmt::Write;
 
@@ -12,7 +12,7 @@ const END: usize = 28;
 
 const ANSWERS: usize = 29;
 
-/// A call and its answers; after "1", in the paper's order of checks.
+/// A call and its answers; after 1, in the order of its checks.
 type Row = (&'static str, &'static [usize]);
 
 #[rustfmt::skip]

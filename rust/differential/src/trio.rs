@@ -288,7 +288,18 @@ pub fn garble(state: &mut State, random: &mut Random) {
         m.rights.0 = random.number() as u32;
     }
     for ((_, _, length), register) in SLOTS.iter().zip(&mut state.registers.slots) {
-        let used = if register.set { *length } else { 0 };
+        if !register.is_set() {
+            register.set = no(random);
+        }
+        let used = if register.is_set() { *length } else { 0 };
         random.fill(&mut register.bytes[used..]);
     }
+    if !state.is_running() {
+        state.running = no(random);
+    }
+}
+
+/// A byte of a flag that does not hold: any but 1.
+fn no(random: &mut Random) -> u8 {
+    random.pick(&[0, 0, 2, 3, 128, 129, 254, 255])
 }

@@ -109,7 +109,8 @@ impl<'m> Bench<'m> {
         &self.memory
     }
 
-    /// The memory, for whoever writes to it past the bench. Such a byte does not count as written.
+    /// The memory, for whoever writes to it without a call. That changes no mark: an unwritten byte stays unwritten, and a written one
+    /// has the new value for every later read.
     pub fn memory_mut(&mut self) -> &mut [u8] {
         &mut self.memory
     }
@@ -132,7 +133,7 @@ impl<'m> Bench<'m> {
 
     /// Whether the device runs.
     pub fn is_running(&self) -> bool {
-        self.state.running
+        self.state.is_running()
     }
 
     /// Keeps the state that a call gave back, and gives its answer.
@@ -294,7 +295,7 @@ impl fmt::Debug for Bench<'_> {
         f.debug_struct("Bench")
             .field("memory_length", &self.memory.len())
             .field("mappings", &self.mappings())
-            .field("running", &self.state.running)
+            .field("running", &self.state.is_running())
             .finish_non_exhaustive()
     }
 }

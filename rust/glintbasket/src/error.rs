@@ -75,7 +75,7 @@ refusals! {
     Mismatch = 23,
     /// The stream has no status part. Place: the length of the stream.
     Missing = 24,
-    /// The register was never set.
+    /// The register is not set.
     Unset = 25,
     /// Offered features cannot be set.
     ReadOnly = 26,

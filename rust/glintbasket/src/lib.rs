@@ -55,6 +55,16 @@
 //! # }
 //! ```
 //!
+//! # What remains for the caller
+//!
+//! Every state, number, length and order of calls has an answer. Three things no call can test, and in safe Rust the types see to them:
+//!
+//! 1. what is lent has as many bytes as its length says (a slice);
+//! 2. memory, marks, the buffer of one call and the state do not overlap (`&mut`);
+//! 3. they are used by one thread at a time (`&mut`).
+//!
+//! From C they are the caller's; `include/glintbasket.h` has the same list.
+//!
 //! # Linking
 //!
 //! The emulator is written in Rattle and proved; `rt staticlib capi` writes it as `libcapi.a` (x86-64 Linux). The build script looks for

@@ -68,7 +68,7 @@ impl<'s> Parts<'s> {
         if step.end {
             return Ok(None);
         }
-        let value = &self.stream[self.place + PART_HEADER..step.next];
+        let value = &self.stream[step.value_start..][..step.value_length];
         self.place = step.next;
         Ok(Some(Part {
             kind: step.kind,

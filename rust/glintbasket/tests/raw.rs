@@ -139,10 +139,10 @@ fn registers_and_streams_cross() {
 
     let mut running = start(&reset.state).state;
     let before = running;
-    assert!(running.running);
+    assert!(running.is_running());
     assert_eq!(load_parts(&mut running, &buffer[..59]), refused(17, 0));
     assert_eq!(running, before);
-    assert!(!stop(&running).state.running);
+    assert!(!stop(&running).state.is_running());
 }
 
 #[test]
@@ -155,7 +155,7 @@ fn slots_tell_where_a_register_is_kept_and_its_size() {
         assert_eq!(kept.outcome, done(0), "slot {slot}");
 
         let mut registers = state.registers;
-        registers.slots[slot].set = true;
+        registers.slots[slot].set = 1;
         registers.slots[slot].bytes.copy_from_slice(&value[..32]);
         assert_eq!(kept.state.registers, registers, "slot {slot}");
 

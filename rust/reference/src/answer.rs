@@ -2,7 +2,7 @@
 
 use std::fmt;
 
-/// The refusals by the paper's names and numbers.
+/// The refusals by name and number (rule 2.4).
 #[derive(Clone, Copy, Debug, PartialEq, Eq)]
 pub enum Refusal {
     BadBench = 1,
@@ -34,7 +34,7 @@ pub enum Refusal {
     NoSpace = 27,
 }
 
-/// A refusal and its place, which is 0 unless the paper states one.
+/// A refusal and its place, which is 0 unless a rule states one (rule 2.2).
 #[derive(Clone, Copy, Debug, PartialEq, Eq)]
 pub struct Refused {
     pub refusal: Refusal,
@@ -84,7 +84,7 @@ mod tests {
     use super::*;
 
     #[test]
-    fn the_refusals_have_the_numbers_of_the_papers_table() {
+    fn the_refusals_have_the_numbers_of_the_rules() {
         let names = [
             (Refusal::BadBench, 1),
             (Refusal::NoSuchRequest, 2),

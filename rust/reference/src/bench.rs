@@ -224,7 +224,7 @@ mod tests {
         two_pages(vec![mapping(0, 0, 4_096, 0)])
     }
 
-    /// Trap 1: every call tries 1 first, also where it uses no memory, would be refused for
+    /// Rule 2.7: every call tries 1 first, also where it uses no memory, would be refused for
     /// another cause, or would have nothing to do.
     #[test]
     fn every_call_but_a_fresh_start_refuses_an_unsound_state() {
@@ -259,7 +259,7 @@ mod tests {
         assert_eq!(*buffer, [0xa5; 64]);
     }
 
-    /// Trap 2: all three lengths must agree.
+    /// Rule 2.6: all three lengths must agree.
     #[test]
     fn memory_marks_and_the_noted_length_must_agree() {
         let state = State::fresh(8_192);
@@ -282,7 +282,7 @@ mod tests {
         assert_eq!(state.check_bench(&bytes[..8_192], &bytes[..8_192]), Ok(()));
     }
 
-    /// 2^30 is allowed, one more is not; 0 is allowed.
+    /// Rule 1.3: 2^30 is allowed, one more is not; 0 is allowed.
     #[test]
     fn memory_has_at_most_2_to_the_30_bytes() {
         let limit = 1 << 30;
@@ -294,7 +294,7 @@ mod tests {
         assert_eq!(check_lengths(0, 0), Ok(()));
     }
 
-    /// Trap 3 and A-6.
+    /// Rule 1.10: nothing of the old state is looked at or kept.
     #[test]
     fn a_fresh_start_replaces_any_state_and_keeps_memory() {
         let mut state = unsound();
@@ -317,7 +317,7 @@ mod tests {
         assert_eq!(marks, vec![1; 99]);
     }
 
-    /// Trap 4 and A-8.
+    /// Rule 1.12: each cause by itself; adjoining is apart, and no sum wraps.
     #[test]
     fn a_mapping_that_map_would_refuse_makes_the_state_unsound() {
         let wrong = [
@@ -355,7 +355,7 @@ mod tests {
         assert!(!two_pages(vec![low, low]).sound());
     }
 
-    /// Trap 5: 64 are sound, 65 are not.
+    /// Rule 1.12: 64 are sound, 65 are not.
     #[test]
     fn a_state_holds_at_most_64_mappings() {
         let many = |count: u64| {
@@ -367,14 +367,14 @@ mod tests {
         assert!(!two_pages(many(65)).sound());
     }
 
-    /// a condition of its own, also with an empty table.
+    /// Rule 1.12: a condition of its own, also with an empty table.
     #[test]
     fn a_noted_length_over_2_to_the_30_is_unsound() {
         assert!(State::fresh(1 << 30).sound());
         assert!(!State::fresh((1 << 30) + 1).sound());
     }
 
-    /// Trap 4, its last two: values of set registers count; status must be set.
+    /// Rule 1.12: values of set registers count; status must be set.
     #[test]
     fn the_registers_of_a_sound_state_hold_acceptable_values() {
         let with = |kind, selector, value: &[u8]| {
@@ -395,7 +395,7 @@ mod tests {
         assert!(!state.sound(), "status not set");
     }
 
-    /// no other check.
+    /// Rule 5.8: no other check.
     #[test]
     fn a_stopped_card_may_be_stopped_and_a_running_one_started() {
         let mut state = State::fresh(0);

@@ -1,4 +1,4 @@
-//! "Numbers are little-endian."
+//! Little-endian numbers (rule 1.1).
 
 /// The number in the `width` bytes from `offset`: the byte at distance `i` counts 256^i.
 pub fn number_at(bytes: &[u8], offset: usize, width: usize) -> u64 {

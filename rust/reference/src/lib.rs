@@ -1,16 +1,16 @@
-//! The rules of document 01, written a second time, from the paper alone.
+//! The rules (docs/RULES.md), written a second time, from the rules alone.
 //!
 //! It shares no code with the emulator, so that a fault of either shows as a difference between
-//! the two. It is made to be checked against the paper by reading: byte by byte, one check a
-//! line, in the paper's order, with sums in `u128` so that none can wrap.
+//! the two. It is made to be checked against the rules by reading: byte by byte, one check a
+//! line, in their order, with sums in `u128` so that none can wrap.
 //!
-//! | Module | Section of document 01 |
+//! | Module | Section of docs/RULES.md |
 //! |---|---|
-//! | [`answer`] | What comes back |
-//! | [`bench`] | The bench and its neighbours |
-//! | [`requests`] | Requests |
-//! | [`moves`] | Moving bytes |
-//! | [`registers`], [`parts`] | Registers and parts |
+//! | [`bench`] | 1 |
+//! | [`answer`] | 2 |
+//! | [`requests`] | 3 |
+//! | [`moves`] | 4 |
+//! | [`registers`], [`parts`] | 5 and 6 |
 //! | [`session`] | none: docs/session-format.md |
 
 #![forbid(unsafe_code)]

@@ -229,7 +229,7 @@ mod tests {
         Err(Refused { refusal, place })
     }
 
-    /// rights as a number; no right is asked for.
+    /// Rule 4.1: rights as a number; no right is asked for.
     #[test]
     fn look_up_gives_memory_address_and_rights() {
         let state = bench(8_192, &[(4_096, 0, 4_096, 2), (0, LIMIT - 4_096, 4_096, 1)]).state;
@@ -242,7 +242,7 @@ mod tests {
         assert_eq!(at(u64::MAX), refused(Refusal::Range, 0));
     }
 
-    /// The worked value: 16 at 1.
+    /// Rule 7.12: 16 at 1.
     #[test]
     fn a_read_stops_at_the_first_unwritten_byte() {
         let mut bench = bench(4_096, &[(0, 0, 4_096, 3)]);
@@ -251,7 +251,7 @@ mod tests {
         assert_eq!(bench.card_read(0, 1), Ok(vec![7]));
     }
 
-    /// A-28 and trap 20: the first offset decides, then 14, 15, 16 at that offset.
+    /// Rule 4.3: the first offset decides, then 14, 15, 16 at that offset.
     #[test]
     fn the_first_faulty_offset_decides_whatever_the_fault() {
         // Page 0 readable, page 1 only writable, page 2 not mapped.
@@ -280,7 +280,7 @@ mod tests {
         assert_eq!(bench.card_read(5, 2), refused(Refusal::NoRight, 0));
     }
 
-    /// Trap 19 and the paper's error 3.
+    /// Rules 2.3 and 7.16: a refused write stores and marks nothing.
     #[test]
     fn a_refused_write_changes_no_byte_and_no_mark() {
         let mut bench = bench(4_096, &[(0, 0, 4_096, 3)]);
@@ -301,7 +301,7 @@ mod tests {
         assert_eq!(bench.card_read(4_094, 4), Ok(vec![1, 2, 3, 4]));
     }
 
-    /// Trap 21.
+    /// Rule 4.6: the later offset wins.
     #[test]
     fn where_two_mappings_show_one_byte_the_later_offset_wins() {
         let mut bench = bench(4_096, &[(0, 0, 4_096, 3), (0, 4_096, 4_096, 3)]);
@@ -315,7 +315,7 @@ mod tests {
         assert_eq!(bench.card_read(0, 4_098), Ok(read));
     }
 
-    /// Traps 22 and 23.
+    /// Rules 1.9 and 4.3: 13 before 9 before 14; 65,536 is allowed.
     #[test]
     fn too_long_comes_before_range_and_range_before_unmapped() {
         let mut bench = bench(131_072, &[(0, 0, 131_072, 3)]);
@@ -339,7 +339,7 @@ mod tests {
         assert_eq!(bench.card_read(u64::MAX, 2), refused(Refusal::Range, 0));
     }
 
-    /// no mapping is needed.
+    /// Rule 4.10: no mapping is needed.
     #[test]
     fn length_0_is_accepted_where_the_range_is_good() {
         let mut bench = bench(100, &[]);
@@ -356,7 +356,7 @@ mod tests {
         assert_eq!(bench.marks, vec![0; 100]);
     }
 
-    /// the offset inside the move, not the memory address.
+    /// Rule 4.8: the offset inside the transfer, not the memory address.
     #[test]
     fn a_host_loads_fault_is_an_offset() {
         let mut bench = bench(100, &[]);
@@ -367,7 +367,7 @@ mod tests {
         assert_eq!(bench.host_load(u64::MAX, 1), refused(Refusal::Range, 0));
     }
 
-    /// Trap 24.
+    /// Rule 4.9: any length, no wrapping, and the bytes stay.
     #[test]
     fn forget_takes_any_length_and_keeps_the_bytes() {
         let mut bench = bench(100_000, &[]);
@@ -380,7 +380,7 @@ mod tests {
         assert_eq!(bench.memory[10..14], [7; 4]);
     }
 
-    /// only mark 1 means written.
+    /// Rule 1.4: only mark 1 means written.
     #[test]
     fn marks_other_than_1_mean_unwritten() {
         let mut bench = bench(4_096, &[(0, 0, 4_096, 3)]);

@@ -1,6 +1,6 @@
 //! Device parts: the walker over a stream, loading and saving.
 //!
-//! A part is type (2), flags (1), reserved (1), selector (8), length (4), and then its value.
+//! A part (rule 5.1) is type (2), flags (1), reserved (1), selector (8), length (4), and its value.
 
 use std::collections::BTreeSet;
 
@@ -238,7 +238,7 @@ mod tests {
         state
     }
 
-    /// The worked value: 41 bytes. Traps 26 and 34.
+    /// Rule 7.2: 41 bytes. Rule 5.14: 0x100 is optional, and the rest of the buffer stays.
     #[test]
     fn a_reset_card_is_saved_in_41_bytes() {
         let mut buffer = [0xa5; 43];
@@ -255,7 +255,7 @@ mod tests {
         assert_eq!(buffer.to_vec(), expected);
     }
 
-    /// Trap 27, and the length's upper end.
+    /// Rule 5.14: selectors rise by number; and the length's upper end.
     #[test]
     fn everything_set_is_saved_in_429_bytes_in_order_and_loads_again() {
         let state = everything_set();
@@ -278,7 +278,7 @@ mod tests {
         assert_eq!(loaded, state);
     }
 
-    /// Trap 33: 17 before 27, and before 13.
+    /// Rules 5.9 and 5.13: 17 before 27, and before 13.
     #[test]
     fn a_running_card_is_neither_saved_nor_loaded() {
         let mut state = State::fresh(0);
@@ -301,7 +301,7 @@ mod tests {
         );
     }
 
-    /// Trap 23 for streams, and A-40: skipped parts may come any number of times.
+    /// Rules 1.9 and 5.10: 65,536 bytes, and skipped parts any number of times.
     #[test]
     fn a_stream_may_have_65536_bytes() {
         let mut stream = status();
@@ -311,7 +311,7 @@ mod tests {
         assert_eq!(load_parts(&mut State::fresh(0), &stream), Ok(0));
     }
 
-    /// The worked values: 24 at 0, accepted, 21 at 17.
+    /// Rules 7.3 to 7.5: 24 at 0, accepted, 21 at 17.
     #[test]
     fn status_occurs_exactly_once() {
         let mut state = State::fresh(0);
@@ -327,7 +327,7 @@ mod tests {
 
     /// Each line breaks one rule more than the line before it breaks, from the last check on.
     #[test]
-    fn a_parts_checks_run_in_the_papers_order() {
+    fn a_parts_checks_run_in_the_rules_order() {
         let bad_queue = [3; 32];
         let cut = |mut bytes: Vec<u8>| {
             bytes.pop();
@@ -375,7 +375,7 @@ mod tests {
         );
     }
 
-    /// Trap 36: 0x100 may be there, flagged optional, with its one value, once.
+    /// Rule 5.7: 0x100 may be there, flagged optional, with its one value, once.
     #[test]
     fn offered_features_in_a_stream_are_checked_and_not_kept() {
         let offered = [0, 0, 0, 0x30, 1, 0, 0, 0];
@@ -401,8 +401,8 @@ mod tests {
         assert_eq!(save_parts(&state, &mut [0; 41]), Ok(41));
     }
 
-    /// The optional bit on a listed type other than 0x100; A-33: 19, not 6, where no selector is
-    /// used; trap 30: 256 is 6, 65,536 is 19.
+    /// Rule 5.10: the optional bit on a listed type other than 0x100; 19, not 6, where no selector
+    /// is used; queue 256 is 6, 65,536 is 19.
     #[test]
     fn the_optional_bit_and_selector_bytes_of_listed_types() {
         let features = [0; 8];
@@ -427,7 +427,7 @@ mod tests {
         }
     }
 
-    /// everything below 0x600 outside the list may be skipped.
+    /// Rule 5.10: everything below 0x600 outside the list may be skipped.
     #[test]
     fn unlisted_types_are_skipped_if_optional_and_below_0x600() {
         for kind in [0, 0xff, 0x106, 0x1ff, 0x200, 0x2ff, 0x300, 0x5ff] {
@@ -450,7 +450,7 @@ mod tests {
         }
     }
 
-    /// Traps 25 and 35.
+    /// Rule 5.12: unset and not zero; a refused stream changes nothing.
     #[test]
     fn loading_unsets_what_is_absent_and_a_refusal_changes_nothing() {
         let mut state = everything_set();
@@ -467,7 +467,7 @@ mod tests {
         assert_eq!(state.registers, expected);
     }
 
-    /// a fault of any part comes before 24.
+    /// Rule 5.11: a fault of any part comes before 24.
     #[test]
     fn a_missing_status_is_said_last() {
         let mut state = State::fresh(0);
@@ -483,7 +483,7 @@ mod tests {
         );
     }
 
-    /// and trap 32.
+    /// Rules 6.2 and 6.5: the end, a place past it, and where the walker then stands.
     #[test]
     fn the_walker_ends_at_the_end_and_stays_where_it_is_refused() {
         let stream = status();
@@ -511,7 +511,7 @@ mod tests {
         assert_eq!(step(&[], 0), Ok(None));
     }
 
-    /// no other check, no limit, and the selector whole.
+    /// Rules 6.2 and 6.3: no other check, no limit, and the selector whole.
     #[test]
     fn the_walker_makes_only_loadings_first_three_checks() {
         let long = part(0xffff, 1, u64::MAX, &vec![9; 70_000]);
@@ -533,7 +533,7 @@ mod tests {
         );
     }
 
-    /// Trap 31: 16 + 0xfffffff0 is 2^32, not 0.
+    /// Rule 3.21: 16 + 0xfffffff0 is 2^32, not 0.
     #[test]
     fn a_length_that_would_wrap_is_past_the_end() {
         let mut stream = part(0x103, 0, 0, &[0]);

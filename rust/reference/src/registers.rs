@@ -162,7 +162,7 @@ mod tests {
         assert_eq!(set_queue(&queue(6, 2, 0x100)), refused(Refusal::Value));
     }
 
-    /// Trap 28: 16, 2 and 4 in that order.
+    /// Rule 5.3: 16, 2 and 4 in that order.
     #[test]
     fn queue_addresses_are_multiples_of_16_2_and_4() {
         for (offset, multiple) in [(8, 16), (16, 2), (24, 4)] {
@@ -205,9 +205,9 @@ mod tests {
         }
     }
 
-    /// A-37 and the order 20, 26, 19, 6, 22, 23.
+    /// Rule 5.15: 20, 26, 19, 6, 22, 23.
     #[test]
-    fn settings_checks_run_in_the_papers_order() {
+    fn settings_checks_run_in_the_rules_order() {
         let cases: [(u64, u64, &[u8], Refusal); 14] = [
             (0x0ff, 9, &[], Refusal::UnknownPart),
             (0x106, 9, &[], Refusal::UnknownPart),
@@ -232,7 +232,7 @@ mod tests {
         }
     }
 
-    /// Trap 29, and A-34: a number beyond its field is 6, never cut down.
+    /// Rules 5.2 and 5.17: a number beyond its field is 6, never cut down.
     #[test]
     fn common_offsets_are_0_8_16_and_22() {
         let mut state = fresh();
@@ -255,7 +255,7 @@ mod tests {
         assert_eq!(answer, refused(Refusal::Index));
     }
 
-    /// Traps 33 and 34: 25 before 27; the rest of the buffer stays.
+    /// Rule 5.16: 25 before 27; the rest of the buffer stays.
     #[test]
     fn reading_gives_the_value_its_length_and_nothing_else() {
         let mut state = fresh();
@@ -279,7 +279,7 @@ mod tests {
         assert_eq!(buffer, [0, 0, 0, 0x30, 1, 0, 0, 0, 0xa5, 0xa5]);
     }
 
-    /// registers have no effect on each other or on the running state.
+    /// Rules 4.2 and 5.18: registers have no effect on each other or on the running state.
     #[test]
     fn setting_status_to_0_is_no_reset_and_a_running_card_may_be_set() {
         let mut state = fresh();

@@ -10,7 +10,7 @@ use crate::registers;
 pub const CONTAINER: u64 = 0;
 pub const DEVICE: u64 = 1;
 
-/// A line of the paper's table of requests.
+/// A line of the table of requests (rule 3.2).
 #[derive(Clone, Copy, Debug, PartialEq, Eq)]
 pub struct Listed {
     pub target: u64,
@@ -177,7 +177,7 @@ fn device_info(buffer: &mut [u8]) -> Answer<u64> {
     Ok(0)
 }
 
-/// Flags on entry are stale: only argsz and the index at byte 8 are looked at.
+/// Flags on entry are stale (rule 7.15): only argsz and the index at byte 8 are looked at.
 fn region_info(buffer: &mut [u8]) -> Answer<u64> {
     let index = number_at(buffer, 8, 4);
     let (size, flags) = match index {
@@ -266,7 +266,7 @@ mod tests {
         state.mappings.iter().map(|m| m.device.0).collect()
     }
 
-    /// Trap 6: the header gives one number to several requests.
+    /// Rule 3.1: VFIO gives one number to several requests.
     #[test]
     fn target_and_number_choose_the_request() {
         let mut state = pages(1);
@@ -284,7 +284,7 @@ mod tests {
         assert_eq!(answer, refused(Refusal::NoSuchRequest));
     }
 
-    /// 2 comes before 3.
+    /// Rules 3.1 and 3.3: any other target is 2, which comes before 3.
     #[test]
     fn an_unlisted_request_is_refused_as_such_with_an_empty_buffer() {
         let answer = ask(&mut pages(1), DEVICE, 113, &mut []);
@@ -305,7 +305,7 @@ mod tests {
         assert_eq!(info(with(20, 0x1_0000 + 16)), refused(Refusal::ArgSize));
     }
 
-    ///
+    /// Rules 3.4, 3.8 and 3.9: any buffer for 100; 1 for 3 alone, all four bytes of it.
     #[test]
     fn container_100_and_101() {
         let mut state = pages(1);
@@ -325,7 +325,7 @@ mod tests {
         );
     }
 
-    /// Traps 8 and 10: stale flags, zeroed reserved bytes, nothing past the size.
+    /// Rules 3.5 to 3.7: stale flags, zeroed reserved bytes, nothing past the size.
     #[test]
     fn information_writes_its_output_fields_and_nothing_else() {
         let mut state = pages(1);
@@ -354,7 +354,7 @@ mod tests {
         }
     }
 
-    /// The worked value: region 7, argsz 32.
+    /// Rule 7.1: region 7, argsz 32.
     #[test]
     fn region_7_byte_by_byte() {
         let mut buffer = buffer(32, &[(0, 4, 32), (8, 4, 7)]);
@@ -369,7 +369,7 @@ mod tests {
         );
     }
 
-    /// Traps 9, 11 and 12.
+    /// Rules 3.12 to 3.15: index of four bytes, offset of empty regions, no output before 6.
     #[test]
     fn regions_0_to_8_and_interrupts_0_to_3_exist() {
         let mut state = pages(1);
@@ -409,7 +409,7 @@ mod tests {
 
     /// Each line breaks one rule more than the line before it breaks, from the last check on.
     #[test]
-    fn maps_checks_run_in_the_papers_order() {
+    fn maps_checks_run_in_the_rules_order() {
         let mut state = pages(2);
         for i in 0..64 {
             assert_eq!(map(&mut state, 3, 0, 0x10_0000 + i * 4_096, 4_096), Ok(0));
@@ -439,7 +439,7 @@ mod tests {
         }
     }
 
-    /// Traps 7 and 18: memory address first; sums of whole numbers.
+    /// Rules 3.2 and 3.21: memory address first; sums of whole numbers.
     #[test]
     fn map_ends_at_2_to_the_48_and_at_the_end_of_memory() {
         let mut state = pages(2);
@@ -459,7 +459,7 @@ mod tests {
         assert_eq!(state.mappings[0].device, DeviceAddress(last));
     }
 
-    /// the last broken page of memory cannot be mapped.
+    /// Rule 1.3: the last broken page of memory cannot be mapped.
     #[test]
     fn a_broken_last_page_cannot_be_mapped() {
         let mut state = State::fresh(8_191);
@@ -467,7 +467,7 @@ mod tests {
         assert_eq!(map(&mut state, 3, 0, 0, 4_096), Ok(0));
     }
 
-    /// Trap 13.
+    /// Rules 3.17 and 3.22: an enclosing map overlaps, an adjoining one does not; memory is shared.
     #[test]
     fn any_shared_device_address_overlaps_and_adjoining_does_not() {
         let mut state = pages(4);
@@ -490,7 +490,7 @@ mod tests {
         assert_eq!(held(&state), [4_096, 8_192, 16_384]);
     }
 
-    /// Trap 17.
+    /// Rules 2.8 and 3.18: kept in order; 64 and no fewer; a freed entry is used again.
     #[test]
     fn the_table_holds_64_rising_and_uses_a_freed_place_again() {
         let mut state = pages(1);
@@ -512,7 +512,7 @@ mod tests {
     }
 
     #[test]
-    fn unmaps_checks_run_in_the_papers_order() {
+    fn unmaps_checks_run_in_the_rules_order() {
         let mut state = pages(2);
         assert_eq!(map(&mut state, 3, 0, 0, 8_192), Ok(0));
         let top = 0u64.wrapping_sub(4_096);
@@ -530,7 +530,7 @@ mod tests {
         }
     }
 
-    /// Traps 14 and 15, with the worked values.
+    /// Rules 3.19 and 3.20, with rules 7.8 and 7.9: cuts at either end; all inside are removed.
     #[test]
     fn unmap_removes_all_inside_or_refuses_to_cut() {
         let mut state = pages(2);
@@ -555,7 +555,7 @@ mod tests {
         assert_eq!(held(&state), [0, 8_192]);
     }
 
-    /// Trap 16 and A-17: holes count nothing, and the range may be the whole device space.
+    /// Rules 3.19 and 3.20: holes count nothing, and the range may be the whole device space.
     #[test]
     fn unmap_reports_what_it_removed_not_what_was_asked() {
         let mut state = pages(2);
@@ -567,7 +567,7 @@ mod tests {
         assert_eq!(held(&state), []);
     }
 
-    /// it resets the card, not the bench.
+    /// Rule 3.16: it resets the card, not the bench.
     #[test]
     fn reset_keeps_the_running_state_and_the_table() {
         let mut state = pages(1);

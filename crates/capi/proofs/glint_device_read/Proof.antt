@@ -1,6 +1,6 @@
 -- `capi::glint_device_read` meets its contract: it is that of `emulator::device_read`.
 use borrow.Author.Needs.{needs}
-use Rattle.capi.proofs.Told.{as-told}
+use Rattle.capi.proofs.Answers.{as-told}
 use Rattle.capi.proofs.glint_device_read.Statement.{statement}
 use Rattle.capi.proofs.glint_device_read.Tie as tie
 

@@ -1,6 +1,6 @@
 -- `capi::glint_device_write` meets its contract: it is that of `emulator::device_write`.
 use borrow.Author.Needs.{needs}
-use Rattle.capi.proofs.Told.{as-told}
+use Rattle.capi.proofs.Answers.{as-told}
 use Rattle.capi.proofs.glint_device_write.Statement.{statement}
 use Rattle.capi.proofs.glint_device_write.Tie as tie
 

@@ -1,6 +1,6 @@
 -- `capi::glint_host_read` meets its contract: it is that of `emulator::host_read`.
 use borrow.Author.Needs.{needs}
-use Rattle.capi.proofs.Told.{as-told}
+use Rattle.capi.proofs.Answers.{as-told}
 use Rattle.capi.proofs.glint_host_read.Statement.{statement}
 use Rattle.capi.proofs.glint_host_read.Tie as tie
 

@@ -1,6 +1,6 @@
 -- `capi::glint_host_write` meets its contract: it is that of `emulator::host_write`.
 use borrow.Author.Needs.{needs}
-use Rattle.capi.proofs.Told.{as-told}
+use Rattle.capi.proofs.Answers.{as-told}
 use Rattle.capi.proofs.glint_host_write.Statement.{statement}
 use Rattle.capi.proofs.glint_host_write.Tie as tie
 

@@ -1,6 +1,6 @@
 -- `capi::glint_invalidate` meets its contract: it is that of `emulator::invalidate`.
 use borrow.Author.Needs.{needs}
-use Rattle.capi.proofs.Told.{as-told}
+use Rattle.capi.proofs.Answers.{as-told}
 use Rattle.capi.proofs.glint_invalidate.Statement.{statement}
 use Rattle.capi.proofs.glint_invalidate.Tie as tie
 

@@ -43,16 +43,17 @@ use Rattle.memory.specs.Memory.{Memory as Lent}
 use Rattle.registers.proofs.Registers as G
 use Rattle.registers.proofs.Registers.Laws as G′
 use Rattle.emulator.specs.Calls.{loadParts}
-use Rattle.emulator.specs.Contract.{Meets as Kept, withRegistersIn}
+use Rattle.emulator.specs.Contract.{withRegistersIn}
 use Rattle.emulator.specs.declared.State.{State}
 use Rattle.emulator.proofs.State as T
 use Rattle.emulator.proofs.State.Laws as T′
-use Rattle.capi.specs.Outcome.{toldBy, keptBy}
-use Rattle.capi.specs.declared.Loaded.{Loaded}
+use Rattle.capi.specs.Structs.{keptBy}
+use Rattle.capi.specs.Contract.{Tells as Kept}
+use Rattle.capi.specs.declared.LoadReply.{LoadReply}
 use Rattle.capi.proofs.Outcome as O
 use Rattle.capi.proofs.Outcome.Laws as O′
-use Rattle.capi.proofs.Loaded as L
-use Rattle.capi.proofs.Loaded.Laws as L′
+use Rattle.capi.proofs.LoadReply as L
+use Rattle.capi.proofs.LoadReply.Laws as L′
 use Rattle.capi.proofs.Borrowed.{R, image, Arg, lent, slice, machines, state-typed, back, hands, meets, copies, either}
 use Rattle.capi.proofs.load_parts as load-parts
 use Rattle.capi.proofs.load_parts.Symbol as load-parts-def
@@ -82,16 +83,16 @@ module _ {M : Type 1} (𝓤 : URA M) (H : Heap 𝓤) (A : Atoms 𝓤) (W : Given
   Stream = ShrSlice (named 1) κ′ u8 .own y (slice y ∷ [])
 
   -- what `load_parts` says of its result
-  abbrev Said : Loaded → Type 0
-  Said r = (m : Lent) → Kept loadParts (y .now) h m (toldBy (r .outcome)) (y .now) m (keptBy r h)
+  abbrev Said : LoadReply → Type 0
+  Said r = (m : Lent) → Kept loadParts (y .now) h m (r .outcome) (y .now) m (keptBy r h)
 
   -- the state, with the registers that were loaded where t is true
-  abbrev next : Loaded → Bool → State
+  abbrev next : LoadReply → Bool → State
   next r t = select t (withRegistersIn (r .registers) h) h
 
   -- what is said of it at exit
-  kept : (r : Loaded) (t : Bool) → t ≡ not (r .outcome .refused) → Said r → (m : Lent) → Kept loadParts (y .now) h m (toldBy (r .outcome)) (y .now) m (next r t)
-  kept r t e said m = subst (λ (s : State). Kept loadParts (y .now) h m (toldBy (r .outcome)) (y .now) m s) (go (r .outcome .refused) t e) (said m)
+  kept : (r : LoadReply) (t : Bool) → t ≡ not (r .outcome .refused) → Said r → (m : Lent) → Kept loadParts (y .now) h m (r .outcome) (y .now) m (next r t)
+  kept r t e said m = subst (λ (s : State). Kept loadParts (y .now) h m (r .outcome) (y .now) m s) (go (r .outcome .refused) t e) (said m)
     where
       go : (refused t : Bool) → t ≡ not refused → select refused h (withRegistersIn (r .registers) h) ≡ select t (withRegistersIn (r .registers) h) h
       go true t e = rw e refl
@@ -100,7 +101,7 @@ module _ {M : Type 1} (𝓤 : URA M) (H : Heap 𝓤) (A : Atoms 𝓤) (W : Given
   abbrev Post : Val → SProp 𝓤
   Post = walkOf 𝓤 H A into.ended stayed (into.clauses 𝓤 H A at-mem run) .post (((κ, (κ′, tt)), (q, (q′, tt)), tt, x, machines b o y), tt)
 
-  exits : (r : Loaded) (t : Bool) → t ≡ not (r .outcome .refused) → Said r → Is O.the-row (r .outcome) (LL.val O.the-type O′.the-laws (r .outcome) ∷ [])
+  exits : (r : LoadReply) (t : Bool) → t ≡ not (r .outcome .refused) → Said r → Is O.the-row (r .outcome) (LL.val O.the-type O′.the-laws (r .outcome) ∷ [])
       → ent 𝓤 (⋆ 𝓤 H A (‵ (fobs γ (R .coded .code (next r t))) ∷ ‵ (fbor κ (Body (mem R) b o γ)) ∷ ‵ (flft κ q) ∷ (‵ (flft κ′ q′) ⊛ ‵ ftrue) ∷ ‵ Stream ∷ [])) (Post (LL.val O.the-type O′.the-laws (r .outcome)))
   exits r t told e is =
       qed W (‵ (fobs γ (R .coded .code (next r t))) ∷ ‵ (fbor κ (Body (mem R) b o γ)) ∷ ‵ (flft κ q) ∷ (‵ (flft κ′ q′) ⊛ ‵ ftrue) ∷ ‵ Stream ∷ []) ∵
@@ -109,13 +110,13 @@ module _ {M : Type 1} (𝓤 : URA M) (H : Heap 𝓤) (A : Atoms 𝓤) (W : Given
       nothing ! $ move ! (2 ∷ 0 ∷ []) $ fjoin ! $ move ! (1 ∷ 0 ∷ []) $ fjoin ! $ owned ! O.the-row (Is O.the-row) (LL.makes O.the-type O′.the-plain 𝓤 H A) (r .outcome) _ is $ move ! (1 ∷ 0 ∷ []) $ done !
 
   -- what whoever holds the result knows of its fields, and of the state with them
-  outcome-is : (r : Loaded) (u : Val) → Is L.the-row r (u ∷ []) → Is O.the-row (r .outcome) (LL.vals O.the-type O′.the-laws (r .outcome))
+  outcome-is : (r : LoadReply) (u : Val) → Is L.the-row r (u ∷ []) → Is O.the-row (r .outcome) (LL.vals O.the-type O′.the-laws (r .outcome))
   outcome-is r u is = LL.owed L.the-type L′.the-laws r (u ∷ []) is .0
 
-  registers-are : (r : Loaded) (u : Val) → Is L.the-row r (u ∷ []) → Is G.the-row (r .registers) (LL.vals G.the-type G′.the-laws (r .registers))
+  registers-are : (r : LoadReply) (u : Val) → Is L.the-row r (u ∷ []) → Is G.the-row (r .registers) (LL.vals G.the-type G′.the-laws (r .registers))
   registers-are r u is = LL.owed L.the-type L′.the-laws r (u ∷ []) is .1 .0
 
-  next-is : Is R h (image h ∷ []) → (r : Loaded) (u : Val) → Is L.the-row r (u ∷ []) → (t : Bool) → Is R (next r t) (image (next r t) ∷ [])
+  next-is : Is R h (image h ∷ []) → (r : LoadReply) (u : Val) → Is L.the-row r (u ∷ []) → (t : Bool) → Is R (next r t) (image (next r t) ∷ [])
   next-is was r u is true =
       let w = LL.owed T.the-type T′.the-laws h (image h ∷ []) was in
       LL.owes T.the-type T′.the-laws (next r true) (w .0, (w .1 .0, (registers-are r u is, (w .1 .1 .1 .0, tt))))
@@ -126,7 +127,7 @@ module _ {M : Type 1} (𝓤 : URA M) (H : Heap 𝓤) (A : Atoms 𝓤) (W : Given
   to-load = (((κ′, tt), (q′, tt), tt, (h, (y, tt)), (image h ∷ [], (slice y ∷ [], tt))), tt)
 
   -- of what `load_parts` ensures, the clause alone
-  said : (r : Loaded) → ent 𝓤 (ensured 𝓤 H A load-parts.ended (load-parts.clauses 𝓤 H A at-mem run) (κ′, tt) (h, (y, tt)) tt r) (fact 𝓤 (Said r))
+  said : (r : LoadReply) → ent 𝓤 (ensured 𝓤 H A load-parts.ended (load-parts.clauses 𝓤 H A at-mem run) (κ′, tt) (h, (y, tt)) tt r) (fact 𝓤 (Said r))
   said r = exE 𝓤 _ (λ ws. snd∗ 𝓤 (sem 𝓤 H A (lasts load-parts.ended (κ′, tt) (h, (y, tt)) ws)) (fact 𝓤 (Said r)))
 
   module _ (𝓣 : Tables 𝓤 H) (known : Triple 𝓤 (𝓣 .C #capi·load-parts) (Load 𝓤 H A at-mem run)) where
@@ -142,7 +143,7 @@ module _ {M : Type 1} (𝓤 : URA M) (H : Heap 𝓤) (A : Atoms 𝓤) (W : Given
         move ! (6 ∷ []) $ fsplit ! $ use1 W (‵ Stream ⊛ ‵ Stream) (shr-slice-copy 𝓤 H A W (named 1) κ′ u8 .twice y (slice y ∷ [])) $ split ! $ move ! (8 ∷ 0 ∷ []) $
         use2 W (raw (Load 𝓤 H A at-mem run .pre to-load)) (hands 𝓤 H A W κ′ q′ h Stream was) $
         calls-at ! (fmOf 𝓤 H (W .laws) 𝓣) (Load 𝓤 H A at-mem run) known to-load (and-then ! (load ! (from ! (stop !)) (look ! 10 refl)) (and-then ! (load ! (from ! (stop !)) (look ! 14 refl)) (no-more !))) (λ u.
-        use1 W (later (some (λ (r : Loaded). ((‵ (flft κ′ q′) ⊛ ‵ ftrue) ⊛ ‵ (L.the-row .own r (u ∷ []))) ⊛ raw (ensured 𝓤 H A load-parts.ended (load-parts.clauses 𝓤 H A at-mem run) (κ′, tt) (h, (y, tt)) tt r)))) (id⊢ 𝓤 _) $ await ! tt $ pick ! (λ r.
+        use1 W (later (some (λ (r : LoadReply). ((‵ (flft κ′ q′) ⊛ ‵ ftrue) ⊛ ‵ (L.the-row .own r (u ∷ []))) ⊛ raw (ensured 𝓤 H A load-parts.ended (load-parts.clauses 𝓤 H A at-mem run) (κ′, tt) (h, (y, tt)) tt r)))) (id⊢ 𝓤 _) $ await ! tt $ pick ! (λ r.
         split ! $ move ! (1 ∷ []) $ use1 W (raw (fact 𝓤 (Said r))) (said r) $ heard ! (Said r) (λ e. split ! $ move ! (1 ∷ []) $ peeks ! L.the-row (Is L.the-row) (shows 𝓤 H A L.the-row) r (u ∷ []) (λ is.
         -- [what the result owns; the stream's token; what the stream owns; true; the state's cell; what it owned; the open borrow; obs; auth; room for _5; …; _4; …; room for _3; …; _2; …; _1; …; room for _0; …]
         land ! (from ! (stop !)) (init ! 13 refl (LL.lawful L.the-type L′.the-laws 𝓤 H A W .typed r _ is .0)) $ rewrite ! 13 (λ (v : Val). ‵ (fat fullShare L′.mir l₃ 0 v)) (ap only (LL.tells L.the-type L′.the-laws r (u ∷ []) is)) refl $

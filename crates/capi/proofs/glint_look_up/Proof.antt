@@ -1,6 +1,6 @@
 -- `capi::glint_look_up` meets its contract: it is that of `emulator::look_up`.
 use borrow.Author.Needs.{needs}
-use Rattle.capi.proofs.Told.{as-told}
+use Rattle.capi.proofs.Answers.{as-told}
 use Rattle.capi.proofs.glint_look_up.Statement.{statement}
 use Rattle.capi.proofs.glint_look_up.Tie as tie
 

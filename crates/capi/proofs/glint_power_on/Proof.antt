@@ -1,6 +1,6 @@
 -- `capi::glint_power_on` meets its contract: it is that of `emulator::power_on`.
 use borrow.Author.Needs.{needs}
-use Rattle.capi.proofs.Told.{as-kept}
+use Rattle.capi.proofs.Answers.{as-kept}
 use Rattle.capi.proofs.glint_power_on.Statement.{statement}
 use Rattle.capi.proofs.glint_power_on.Tie as tie
 

@@ -1,6 +1,6 @@
 -- `capi::glint_read_register` meets its contract: it is that of `emulator::read_register`.
 use borrow.Author.Needs.{needs}
-use Rattle.capi.proofs.Told.{as-told}
+use Rattle.capi.proofs.Answers.{as-told}
 use Rattle.capi.proofs.glint_read_register.Statement.{statement}
 use Rattle.capi.proofs.glint_read_register.Tie as tie
 

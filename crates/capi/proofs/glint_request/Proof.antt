@@ -1,6 +1,6 @@
 -- `capi::glint_request` meets its contract: it is that of `emulator::request`.
 use borrow.Author.Needs.{needs}
-use Rattle.capi.proofs.Told.{as-kept}
+use Rattle.capi.proofs.Answers.{as-kept}
 use Rattle.capi.proofs.glint_request.Statement.{statement}
 use Rattle.capi.proofs.glint_request.Tie as tie
 

@@ -39,11 +39,10 @@ use denote.Triple.Walked.{says, Stays, stay-none-ref, gave-slice, walkOf, AllGo,
 use denote.Exit.{yes}
 use Rattle.memory.specs.Memory.{Memory as Lent}
 use Rattle.emulator.specs.Calls.{saveParts}
-use Rattle.emulator.specs.Contract.{Meets as Kept}
 use Rattle.emulator.specs.declared.State.{State}
 use Rattle.emulator.proofs.State as T
 use Rattle.emulator.proofs.State.Laws as T′
-use Rattle.capi.specs.Outcome.{toldBy}
+use Rattle.capi.specs.Contract.{Tells as Kept}
 use Rattle.capi.specs.declared.Outcome.{Outcome}
 use Rattle.capi.proofs.Outcome as O
 use Rattle.capi.proofs.Outcome.Laws as O′
@@ -73,7 +72,7 @@ module _ {M : Type 1} (𝓤 : URA M) (H : Heap 𝓤) (A : Atoms 𝓤) (W : Given
 
   -- what `save_parts` says of its result, and of the buffer's last bytes
   abbrev Said : Outcome → List ℕ → Type 0
-  Said r zs = (m : Lent) → Kept saveParts (y .now) h m (toldBy r) zs m h
+  Said r zs = (m : Lent) → Kept saveParts (y .now) h m r zs m h
 
   abbrev Post : Val → SProp 𝓤
   Post = walkOf 𝓤 H A from′.ended stayed (from′.clauses 𝓤 H A at-mem run) .post (((κ, (κ′, tt)), (q, (q′, tt)), tt, x, machines b o y), tt)

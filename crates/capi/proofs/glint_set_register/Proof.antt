@@ -1,6 +1,6 @@
 -- `capi::glint_set_register` meets its contract: it is that of `emulator::set_register`.
 use borrow.Author.Needs.{needs}
-use Rattle.capi.proofs.Told.{as-kept}
+use Rattle.capi.proofs.Answers.{as-kept}
 use Rattle.capi.proofs.glint_set_register.Statement.{statement}
 use Rattle.capi.proofs.glint_set_register.Tie as tie
 

@@ -1,6 +1,6 @@
 -- `capi::glint_start` meets its contract: it is that of `emulator::start`.
 use borrow.Author.Needs.{needs}
-use Rattle.capi.proofs.Told.{as-kept}
+use Rattle.capi.proofs.Answers.{as-kept}
 use Rattle.capi.proofs.glint_start.Statement.{statement}
 use Rattle.capi.proofs.glint_start.Tie as tie
 

@@ -1,6 +1,6 @@
 -- `capi::glint_stop` meets its contract: it is that of `emulator::stop`.
 use borrow.Author.Needs.{needs}
-use Rattle.capi.proofs.Told.{as-kept}
+use Rattle.capi.proofs.Answers.{as-kept}
 use Rattle.capi.proofs.glint_stop.Statement.{statement}
 use Rattle.capi.proofs.glint_stop.Tie as tie
 

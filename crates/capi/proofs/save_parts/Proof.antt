@@ -1,6 +1,6 @@
 -- `capi::save_parts` meets its contract: it is that of `emulator::save_parts`.
 use borrow.Author.Needs.{needs}
-use Rattle.capi.proofs.Told.{as-told}
+use Rattle.capi.proofs.Answers.{as-told}
 use Rattle.capi.proofs.save_parts.Statement.{statement}
 use Rattle.capi.proofs.save_parts.Tie as tie
 

@@ -4,6 +4,7 @@ use native.Mathlib.Omega.{arith}
 use mathlib.Core.Path.{_≡_, sym, _∙_, ap}
 use mathlib.Core.Logic.{⊎-elim}
 use lib.ListN.{length, getD}
+use Rattle.answer.specs.Tests.{flagged}
 use Rattle.registers.specs.Rows.{rowOf}
 use Rattle.registers.proofs.Rows.{size-most}
 use Rattle.registers.proofs.File.{absent}
@@ -45,13 +46,13 @@ array-copy-out-status c = search needs
 
 finish-requires : tie.Need-finish-requires Inv-loop μ-loop
 finish-requires c κs =
-    let l = c .before .before .before .before in
+    let l = c .before .before .before .before .before in
     (l .loop .inv .canonical, status-named (l .loop .slots))
 
 returns : tie.Need-returns Inv-loop μ-loop
 returns c =
-    let l = c .before .before .before .before .before in
-    c .finish .ensures (l .loop .inv .features) ∙ agree _ _ (loop-end _ _ _ _ (l .loop .inv) (sym (c .before .before .enum-told .given .1) ∙ c .before .before .before .before .step-at .ensures))
+    let l = c .before .before .before .before .before .before in
+    c .finish .ensures (l .loop .inv .features) ∙ agree _ _ (loop-end _ _ _ _ (l .loop .inv) (sym (c .before .before .before .enum-told .given .1) ∙ c .before .before .before .before .before .step-at .ensures))
 
 enum-known-step : tie.Need-enum-known-step Inv-loop μ-loop
 enum-known-step c = search needs
@@ -114,7 +115,7 @@ known c =
     let e = c .before .row-of .ensures in
     ⊎-elim (λ w. w .1 ∙ sym (l .loop .inv .flag) ∙ sym (named-offered _ (l .loop .slots) (kind p) (selector p) (sym e ∙ w .0 .taken)))
     (⊎-elim
-    (λ w. w .3 ∙ ap (λ (i : ℕ). getD (l .loop .slots) (i - 1) absent .set) e ∙ sym (named-kept _ (l .loop .slots) (kind p) (selector p) (omega arith)))
+    (λ w. w .4 ∙ ap (λ (i : ℕ). flagged (getD (l .loop .slots) (i - 1) absent .set)) e ∙ sym (named-kept _ (l .loop .slots) (kind p) (selector p) (omega arith)))
     (λ w. w .2 ∙ named-none _ (l .loop .slots) (kind p) (selector p) (l .loop .inv .long) (omega arith)))
     (c .if1 .came)
 

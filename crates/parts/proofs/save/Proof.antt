@@ -13,6 +13,7 @@ use Rattle.registers.proofs.File.{absent, features, features-whole, slot-row, s
 use Rattle.parts.specs.Save.{encoded}
 use Rattle.parts.proofs.Saving.{features-room, Left, left-start, left-all, left-end, left-none, left-room, left-more}
 use borrow.Author.Needs.{needs}
+use borrow.Author.Tests.{eq-eqb, ne-eqb}
 use Rattle.parts.proofs.save.Statement.{statement}
 use Rattle.parts.proofs.save.Tie as tie
 
@@ -67,12 +68,12 @@ whole c here =
 
 -- the part of a row has room in the buffer
 room : (c : tie.Then1 Inv-loop μ-loop)
-    → let l = c .before .before .before in
+    → let l = c .before .before .before .before in
     l .loop .at + 16 + sizeOf (l .loop .i + 1) ≤ length (l .loop .buf)
 room c =
-    let l = c .before .before .before in
-    let here = c .before .before .loop-test .taken in
-    let fits = left-room _ _ _ _ _ (l .loop .inv) (omega arith) (slot l) (slot-row _ _) (whole l here) (c .if1 .taken) in
+    let l = c .before .before .before .before in
+    let here = c .before .before .before .loop-test .taken in
+    let fits = left-room _ _ _ _ _ (l .loop .inv) (omega arith) (slot l) (slot-row _ _) (whole l here) (eq-eqb _ _ (c .if1 .taken)) in
     let p = l .before .before .before .before in
     let given = p .before .before .before .before .before .pre in
     omega (arith, l .loop .inv .same, long p)
@@ -82,7 +83,7 @@ add-put-part c = search needs
 
 put-part-requires-2 : tie.Need-put-part-requires-2 Inv-loop μ-loop
 put-part-requires-2 c κs =
-    let t = c .before .before .before in
+    let t = c .before .before .before .before in
     (omega (arith, t .loop-test .taken), whole (t .before) (t .loop-test .taken), room (c .before))
 
 add-at-2 : tie.Need-add-at-2 Inv-loop μ-loop
@@ -105,12 +106,12 @@ loop-less c = search needs
 
 loop-again : tie.Need-loop-again Inv-loop μ-loop
 loop-again c =
-    let t = c .before .before in
+    let t = c .before .before .before in
     let l = t .before in
     let here = t .loop-test .taken in
     ⊎-elim
-    (λ w. left-more _ _ _ _ _ (l .loop .inv) (omega arith) (slot l) (slot-row _ _) (whole l here) (w .0 .taken) _ _ (w .6 ∙ w .2 .ensures) (w .7 ∙ ap (λ (z : ℕ). l .loop .at + 16 + z) (w .5 .ensures)))
-    (λ w. left-none _ _ _ _ _ (l .loop .inv) (omega arith) (slot l) (slot-row _ _) (w .0 .left) _ _ (w .1) (w .2))
+    (λ w. left-more _ _ _ _ _ (l .loop .inv) (omega arith) (slot l) (slot-row _ _) (whole l here) (eq-eqb _ _ (w .0 .taken)) _ _ (w .6 ∙ w .2 .ensures) (w .7 ∙ ap (λ (z : ℕ). l .loop .at + 16 + z) (w .5 .ensures)))
+    (λ w. left-none _ _ _ _ _ (l .loop .inv) (omega arith) (slot l) (slot-row _ _) (ne-eqb _ _ (w .0 .left)) _ _ (w .1) (w .2))
     (c .if1 .came)
 
 same-length : tie.Need-same-length Inv-loop μ-loop

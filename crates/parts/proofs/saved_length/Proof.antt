@@ -8,6 +8,7 @@ use Rattle.registers.proofs.Rows.{size-most}
 use Rattle.registers.proofs.File.{slot-row, slot-whole}
 use Rattle.parts.proofs.Saving.{Count, count-start, count-end, count-none, count-more}
 use borrow.Author.Needs.{needs}
+use borrow.Author.Tests.{eq-eqb, ne-eqb}
 use Rattle.parts.proofs.saved_length.Statement.{statement}
 use Rattle.parts.proofs.saved_length.Tie as tie
 
@@ -33,7 +34,7 @@ array-copy-out-r : tie.Need-array-copy-out-r Inv-loop μ-loop
 array-copy-out-r c = search needs
 
 add-n-2 : tie.Need-add-n-2 Inv-loop μ-loop
-add-n-2 c = omega (arith, c .before .before .before .loop .inv .small)
+add-n-2 c = omega (arith, c .before .before .before .before .loop .inv .small)
 
 add-size-of : tie.Need-add-size-of Inv-loop μ-loop
 add-size-of c = search needs
@@ -43,7 +44,7 @@ size-of-requires-2 c κs = search needs
 
 add-n-3 : tie.Need-add-n-3 Inv-loop μ-loop
 add-n-3 c =
-    let l = c .before .before .before .before in
+    let l = c .before .before .before .before .before in
     omega (arith, l .loop .inv .small, c .size-of2 .ensures, size-most (l .loop .i + 1) (omega arith))
 
 add-i : tie.Need-add-i Inv-loop μ-loop
@@ -55,13 +56,13 @@ loop-less c = search needs
 loop-again : tie.Need-loop-again Inv-loop μ-loop
 loop-again c =
     let m = c .before in
-    let l = m .before .before in
+    let l = m .before .before .before in
     let s = l .before .before .before in
-    let here : l .loop .i < 14 = m .before .loop-test .taken in
+    let here : l .loop .i < 14 = m .before .before .loop-test .taken in
     let shown = slot-row (s .args .registers) (l .loop .i) in
     ⊎-elim
-    (λ w. count-more _ _ _ (l .loop .inv) (omega arith) _ shown (slot-whole (s .args .registers) _ (s .good .0) (l .loop .i) here) (w .0 .taken) _ (w .2 ∙ ap (λ (z : ℕ). l .loop .n + 16 + z) (w .1 .ensures)))
-    (λ w. count-none _ _ _ (l .loop .inv) (omega arith) _ shown (w .0 .left) _ (w .1))
+    (λ w. count-more _ _ _ (l .loop .inv) (omega arith) _ shown (slot-whole (s .args .registers) _ (s .good .0) (l .loop .i) here) (eq-eqb _ _ (w .0 .taken)) _ (w .2 ∙ ap (λ (z : ℕ). l .loop .n + 16 + z) (w .1 .ensures)))
+    (λ w. count-none _ _ _ (l .loop .inv) (omega arith) _ shown (ne-eqb _ _ (w .0 .left)) _ (w .1))
     (c .if1 .came)
 
 returns : tie.Need-returns Inv-loop μ-loop

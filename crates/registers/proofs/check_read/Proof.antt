@@ -3,7 +3,8 @@ use Prim.Native.Nat.{_<_}
 use native.Mathlib.Omega.{arith}
 use lib.Dec.{ltb}
 use mathlib.Core.Path.{_≡_, sym, _∙_}
-use borrow.Author.Tests.{lt-ltb, le-ltb, not-true, not-false}
+use borrow.Author.Tests.{eq-eqb, ne-eqb, lt-ltb, le-ltb, not-true, not-false}
+use Rattle.answer.specs.Tests.{flagged}
 use Rattle.answer.specs.Codes.{Unset, NoSpace}
 use Rattle.answer.specs.Checks.{_then_, _when_, _unless_}
 use Rattle.registers.specs.Rows.{rowCount, sizeOf}
@@ -43,7 +44,7 @@ bound c =
 rest : (c : tie.After-current)
     → let a = c .before .before .before .before .before .before .before .args in
     readChecks (fileOf (a .registers)) (a .kind) (a .selector) (a .room)
-    ≡ (Unset unless c .current .result .set then NoSpace when ltb (a .room) (sizeOf (c .before .row-of .result)))
+    ≡ (Unset unless flagged (c .current .result .set) then NoSpace when ltb (a .room) (sizeOf (c .before .row-of .result)))
 rest c =
     let t = c .before .before in
     let s = t .before .before in
@@ -56,7 +57,7 @@ current-requires c κs = bound c
 
 returns-2 : tie.Need-returns-2
 unfolding _then_ _unless_
-returns-2 c = sym (rest (c .before .before) ∙ rw (not-true (c .before .before .current .result .set) (c .if2 .taken)))
+returns-2 c = sym (rest (c .before .before) ∙ rw (ne-eqb _ _ (c .if2 .taken)))
 
 size-of-requires : tie.Need-size-of-requires
 size-of-requires c κs = bound (c .before .before .before)
@@ -65,7 +66,7 @@ returns-3 : tie.Need-returns-3
 unfolding _then_ _unless_ _when_
 returns-3 c =
     let r = c .before .before .before .before in
-    sym (rest r ∙ rw (not-false (r .current .result .set) (c .before .before .if2 .left), ← c .before .size-of .ensures, lt-ltb _ _ (c .if3 .taken)))
+    sym (rest r ∙ rw (eq-eqb _ _ (c .before .before .if2 .left), ← c .before .size-of .ensures, lt-ltb _ _ (c .if3 .taken)))
 
 returns-4 : tie.Need-returns-4
 unfolding readChecks _then_ _unless_
@@ -77,7 +78,7 @@ returns-5 : tie.Need-returns-5
 unfolding _then_ _unless_ _when_
 returns-5 c =
     let r = c .before .before .before .before in
-    sym (rest r ∙ rw (not-false (r .current .result .set) (c .before .before .if2 .left), ← c .before .size-of .ensures, le-ltb _ _ (c .if3 .left)))
+    sym (rest r ∙ rw (eq-eqb _ _ (c .before .before .if2 .left), ← c .before .size-of .ensures, le-ltb _ _ (c .if3 .left)))
 
 pub check-read-spec : {M : Type 1} → statement M
 check-read-spec =

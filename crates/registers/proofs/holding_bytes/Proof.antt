@@ -21,7 +21,7 @@ returns : tie.Need-returns
 returns c =
     let start = c .before .before .before .before in
     let v = start .args .v .now in
-    ap (λ (b : List ℕ). record { set = true; bytes = b }) (c .before .copy .ensures ∙ ap (sets (replicate 32 0) 0) (take-all (start .args .n) v (omega (arith, start .pre .0)))) ∙ register-made v (search needs)
+    ap (λ (b : List ℕ). record { set = 1; bytes = b }) (c .before .copy .ensures ∙ ap (sets (replicate 32 0) 0) (take-all (start .args .n) v (omega (arith, start .pre .0)))) ∙ register-made v (search needs)
 
 pub holding-bytes-spec : {M : Type 1} → statement M
 holding-bytes-spec = tie.close (tie.spec slice-aggregate-copy copy-requires returns)

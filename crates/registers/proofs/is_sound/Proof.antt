@@ -1,7 +1,7 @@
 -- `registers::is_sound` meets its contract.
 use native.Mathlib.Omega.{arith}
 use mathlib.Core.Path.{sym, _∙_, ap}
-use borrow.Author.Tests.{not-true, not-false}
+use borrow.Author.Tests.{eq-eqb, ne-eqb}
 use lib.Seq.{length-take-le}
 use Rattle.answer.specs.Checks.{passes}
 use Rattle.registers.specs.File.{soundValue}
@@ -13,7 +13,7 @@ use Rattle.registers.proofs.is_sound.Tie as tie
 
 returns : tie.Need-returns
 unfolding soundValue
-returns c = sym (ap (soundValue _) (value-unset _ _ (not-true _ (c .if1 .taken))))
+returns c = sym (ap (soundValue _) (value-unset _ _ (ne-eqb _ _ (c .if1 .taken))))
 
 size-of-requires : tie.Need-size-of-requires
 size-of-requires c κs = search needs
@@ -38,7 +38,7 @@ returns-2 c =
     let v = c .before in
     let s = v .before .before .before in
     let a = s .before .before .before .args .r in
-    c .passes .ensures ∙ ap passes (v .check-value .ensures) ∙ rw (s .size-of .ensures, value-set _ a (not-false (a .set) (s .before .if1 .left)))
+    c .passes .ensures ∙ ap passes (v .check-value .ensures) ∙ rw (s .size-of .ensures, value-set _ a (eq-eqb _ _ (s .before .if1 .left)))
 
 pub is-sound-spec : {M : Type 1} → statement M
 is-sound-spec =

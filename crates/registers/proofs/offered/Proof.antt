@@ -19,7 +19,7 @@ put-u64-requires c κs = search needs
 
 returns : tie.Need-returns
 unfolding bytesOf
-returns c = ap (λ (b : List ℕ). record { set = true; bytes = b }) (c .before .put-u64 .ensures) ∙ register-made (bytesOf 8 offered) (omega arith)
+returns c = ap (λ (b : List ℕ). record { set = 1; bytes = b }) (c .before .put-u64 .ensures) ∙ register-made (bytesOf 8 offered) (omega arith)
 
 pub offered-spec : {M : Type 1} → statement M
 offered-spec = tie.close (tie.spec slice-aggregate-put-u64 put-u64-requires returns)

@@ -4,9 +4,9 @@ use native.Mathlib.Omega.{arith}
 use mathlib.Core.Path.{_≡_, sym, _∙_, ap}
 use mathlib.Core.Bool.{Bool}
 use lib.ListN.{drop, length}
-use borrow.Author.Tests.{not-true, not-false}
+use borrow.Author.Tests.{eq-eqb, ne-eqb, not-true, not-false}
 use Rattle.answer.specs.Tests.{_and_}
-use Rattle.registers.specs.File.{soundFile, soundFrom, fileFrom, fileOf}
+use Rattle.registers.specs.File.{soundFile, soundValuesFrom, fileFrom, fileOf}
 use Rattle.registers.proofs.File.{slot-whole, sound-status, sound-rest, sound-more, sound-end}
 use Rattle.answer.proofs.Arrays.{length-mapped}
 use borrow.Author.Needs.{needs}
@@ -14,7 +14,7 @@ use Rattle.registers.proofs.sound.Statement.{statement}
 use Rattle.registers.proofs.sound.Tie as tie
 
 abbrev Inv-loop : tie.InvT-loop
-Inv-loop slots i₀ i = (i ≤ 14) × (soundFile (fileFrom 1 slots) ≡ soundFrom (i + 1) (fileFrom (i + 1) (drop i slots)))
+Inv-loop slots i₀ i = (i ≤ 14) × (soundFile (fileFrom 1 slots) ≡ soundValuesFrom (i + 1) (fileFrom (i + 1) (drop i slots)))
 
 abbrev μ-loop : tie.MeasureT-loop
 μ-loop slots i₀ i = 14 - i
@@ -29,11 +29,11 @@ array-copy-out-status : tie.Need-array-copy-out-status Inv-loop μ-loop
 array-copy-out-status c = search needs
 
 returns : tie.Need-returns Inv-loop μ-loop
-returns c = sound-status _ (not-true _ (c .if1 .taken))
+returns c = sound-status _ (ne-eqb _ _ (c .if1 .taken))
 
 loop-holds : tie.Need-loop-holds Inv-loop μ-loop
 unfolding fileOf
-loop-holds c = (omega arith, sound-rest _ (not-false _ (c .if1 .left)))
+loop-holds c = (omega arith, sound-rest _ (eq-eqb _ _ (c .if1 .left)))
 
 mul-r : tie.Need-mul-r Inv-loop μ-loop
 mul-r c = search needs
@@ -55,13 +55,13 @@ turn : (c : tie.After-is-sound Inv-loop μ-loop)
     → let l = c .before .before .before in
     let i = l .loop .i in
     let slots = l .before .before .before .before .before .args .registers .slots in
-    soundFile (fileFrom 1 slots) ≡ (c .is-sound .result and soundFrom (i + 1 + 1) (fileFrom (i + 1 + 1) (drop (i + 1) slots)))
+    soundFile (fileFrom 1 slots) ≡ (c .is-sound .result and soundValuesFrom (i + 1 + 1) (fileFrom (i + 1 + 1) (drop (i + 1) slots)))
 turn c =
     let l = c .before .before .before in
     let i = l .loop .i in
     let slots = l .before .before .before .before .before .args .registers .slots in
     let long : length slots ≡ 14 = search (needs, length-mapped) in
-    l .loop .inv .1 ∙ sound-more slots i (omega arith) ∙ ap (λ (t : Bool). t and soundFrom (i + 1 + 1) (fileFrom (i + 1 + 1) (drop (i + 1) slots))) (sym (c .is-sound .ensures))
+    l .loop .inv .1 ∙ sound-more slots i (omega arith) ∙ ap (λ (t : Bool). t and soundValuesFrom (i + 1 + 1) (fileFrom (i + 1 + 1) (drop (i + 1) slots))) (sym (c .is-sound .ensures))
 
 returns-2 : tie.Need-returns-2 Inv-loop μ-loop
 unfolding _and_ fileOf

@@ -5,14 +5,14 @@ use native.Mathlib.Nat.{add-zero, sub-zero}
 use mathlib.Core.Path.{_≡_, refl, sym, _∙_}
 use lib.ListN.{length, set, length-set}
 use lib.Seq.{sets}
-use Rattle.wire.specs.Field.{part}
+use Rattle.wire.specs.Field.{slice}
 use Rattle.wire.proofs.Laws.{copy-more}
 use borrow.Author.Needs.{needs}
 use Rattle.wire.proofs.copy.Statement.{statement}
 use Rattle.wire.proofs.copy.Tie as tie
 
 abbrev Inv-loop : tie.InvT-loop
-Inv-loop dst₀ to src from n i₀ dst i = (i ≤ n) × (length dst ≡ length dst₀) × (sets dst₀ to (part src from n) ≡ sets dst (to + i) (part src (from + i) (n - i)))
+Inv-loop dst₀ to src from n i₀ dst i = (i ≤ n) × (length dst ≡ length dst₀) × (sets dst₀ to (slice src from n) ≡ sets dst (to + i) (slice src (from + i) (n - i)))
 
 abbrev μ-loop : tie.MeasureT-loop
 μ-loop dst₀ to src from n i₀ dst i = n - i

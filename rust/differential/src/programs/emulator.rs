@@ -24,7 +24,7 @@ pub fn emulate(
         Call::Request { target, number } => {
             kept(raw::request(state, memory, marks, target, number, buffer))
         }
-        Call::LookUp { device } => found(raw::look_up(state, DeviceAddress(device))),
+        Call::LookUp { device } => found(&raw::look_up(state, DeviceAddress(device))),
         Call::CardRead { device } => {
             let device = DeviceAddress(device);
             told(raw::device_read(state, memory, marks, device, buffer))
@@ -55,7 +55,7 @@ pub fn emulate(
         Call::SaveParts => told(raw::save_parts(state, buffer)),
         Call::Stop => kept(raw::stop(state)),
         Call::Start => kept(raw::start(state)),
-        Call::Walk { place } => walked(raw::step(buffer, place as usize)),
+        Call::Walk { place } => walked(&raw::step(buffer, place as usize), place),
     };
     (answer, left)
 }
@@ -77,39 +77,54 @@ fn told(outcome: Outcome) -> Answer {
     Answer::Done(result)
 }
 
-fn found(found: Found) -> Answer {
+fn found(found: &Found) -> Answer {
     match told(found.outcome) {
         Answer::Done(0) => Answer::Found {
             address: found.address.0,
             rights: u64::from(found.rights.0),
         },
-        other => other,
+        other => {
+            assert_eq!((found.address.0, found.rights.0), (0, 0), "{found:?}");
+            other
+        }
     }
 }
 
-fn walked(step: PartStep) -> Answer {
-    let PartStep {
-        refused,
-        end,
-        code,
-        place,
-        kind,
-        flags,
-        selector,
-        next,
-    } = step;
-    if refused {
-        assert!(!end, "{step:?}");
-        let code = u64::from(code);
+/// The step at a place, of which every field is judged: the second program knows kind, flags, selector and next.
+fn walked(step: &PartStep, at: u64) -> Answer {
+    let nothing = PartStep {
+        refused: step.refused,
+        end: !step.refused,
+        code: step.code,
+        place: step.place,
+        kind: 0,
+        flags: 0,
+        selector: 0,
+        value_start: 0,
+        value_length: 0,
+        next: at as usize,
+    };
+    if step.refused {
+        assert_eq!(*step, nothing);
+        let (code, place) = (u64::from(step.code), step.place);
         return Answer::Refused { code, place };
     }
-    if end {
+    assert_eq!((step.code, step.place), (0, 0), "{step:?}");
+    if step.end {
+        assert_eq!(*step, nothing);
         return Answer::End;
     }
+    let next = step.next as u64;
+    assert_eq!(step.value_start as u64, at + 16, "{step:?}");
+    assert_eq!(
+        (step.value_start + step.value_length) as u64,
+        next,
+        "{step:?}"
+    );
     Answer::Part {
-        kind: u64::from(kind),
-        flags: u64::from(flags),
-        selector,
-        next: next as u64,
+        kind: u64::from(step.kind),
+        flags: u64::from(step.flags),
+        selector: step.selector,
+        next,
     }
 }

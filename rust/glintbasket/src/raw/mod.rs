@@ -24,8 +24,8 @@
 
 // This is the only module with `unsafe`. Why the calls are safe: no function of the library asks anything of its arguments but what
 // Rust's types say. A `&[u8]` or `&mut [u8]` gives a pointer that is not null and as many bytes as its length says, also where it has
-// none; what is lent as `&mut` overlaps nothing else; a `bool` is 0 or 1. All other values may be any. The library keeps no pointer,
-// and writes to nothing that is lent as `&`.
+// none; what is lent as `&mut` overlaps nothing else. All other values may be any. The library keeps no pointer, and writes to nothing that
+// is lent as `&`.
 
 mod structs;
 

@@ -54,8 +54,8 @@ pub const SLOTS: [(u64, u64, usize); REGISTERS] = [
 #[repr(C)]
 #[derive(Clone, Copy, Debug, Default, PartialEq, Eq)]
 pub struct Register {
-    /// Whether it is set; if not, `bytes` means nothing.
-    pub set: bool,
+    /// 1 if it is set. Every other value says that it is not, and then `bytes` means nothing.
+    pub set: u8,
     /// The value, and behind it bytes that mean nothing.
     pub bytes: [u8; 32],
 }
@@ -82,8 +82,8 @@ pub struct State {
     pub table: Table,
     /// The device's registers.
     pub registers: Registers,
-    /// Whether the device runs.
-    pub running: bool,
+    /// 1 if the device runs. Every other value says that it does not.
+    pub running: u8,
 }
 
 /// An answer: a result, or a refusal's number and place.
@@ -124,7 +124,7 @@ pub struct Found {
 
 /// A step's answer: a refusal; the end of the stream; or a part.
 ///
-/// A part's value reaches from [`PART_HEADER`](crate::PART_HEADER) bytes behind the step's place to `next`.
+/// What an answer has no use for is 0.
 #[repr(C)]
 #[derive(Clone, Copy, Debug, PartialEq, Eq)]
 pub struct PartStep {
@@ -142,8 +142,26 @@ pub struct PartStep {
     pub flags: u8,
     /// All eight bytes of the part's selector, as one number.
     pub selector: u64,
+    /// Where the part's value begins in the stream.
+    pub value_start: usize,
+    /// How many bytes it has; its end lies in the stream.
+    pub value_length: usize,
     /// The place of the next step; after a refusal or the end, of this one.
     pub next: usize,
+}
+
+impl Register {
+    /// Whether it is set.
+    pub fn is_set(&self) -> bool {
+        self.set == 1
+    }
+}
+
+impl State {
+    /// Whether the device runs.
+    pub fn is_running(&self) -> bool {
+        self.running == 1
+    }
 }
 
 impl Default for Table {
@@ -170,5 +188,5 @@ const _: () = {
     assert!(size_of::<Outcome>() == 24);
     assert!(size_of::<Kept>() == 2552);
     assert!(size_of::<Found>() == 40);
-    assert!(size_of::<PartStep>() == 40);
+    assert!(size_of::<PartStep>() == 56);
 };

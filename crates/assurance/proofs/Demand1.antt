@@ -1,0 +1,153 @@
+-- The term of demand 1: the checks of every call, taken apart by the laws of proofs/Listed.antt; and what a refusal leaves.
+use Prim.Native.Nat.{ℕ, zero, suc}
+use mathlib.Core.Path.{_≡_, refl, sym, _∙_, ap}
+use mathlib.Core.Bool.{Bool, true, false}
+use mathlib.Core.List.{List}
+use mathlib.Core.Option.{Option, none, some}
+use Rattle.answer.specs.Limits.{lengthCheck}
+use Rattle.answer.specs.Answer.{Answer, refused, verdict}
+use Rattle.answer.specs.declared.Verdict.{Verdict}
+use Rattle.answer.specs.declared.Verdict.the-variants.{Pass, Fail}
+use Rattle.iommu.specs.Requests.{translateChecks, mapChecks, unmapChecks}
+use Rattle.iommu.specs.declared.Translation.{Translation}
+use Rattle.iommu.specs.declared.Translation.the-variants.{At, Nowhere}
+use Rattle.memory.specs.Memory.{Memory, edited}
+use Rattle.memory.specs.Transfers.{unwrittenAt, unwrittenIn, hostWriteChecks, hostReadChecks, invalidateChecks}
+use Rattle.dma.specs.Transfers.{readFault, writeFault, transferChecks, deviceReadChecks, deviceWriteChecks}
+use Rattle.registers.specs.File.{File}
+use Rattle.registers.specs.Values.{contentChecks, valueChecks}
+use Rattle.registers.specs.Access.{selectorChecks, setChecks, readChecks}
+use Rattle.parts.specs.Step.{headerChecks, partAt, stepOn, partStep, stepAt}
+use Rattle.parts.specs.Load.{Seen, listedChecks as listedPartChecks, partChecks, finish, onStep, loadFrom, load}
+use Rattle.parts.specs.Save.{saveChecks}
+use Rattle.parts.specs.declared.Step.{Step}
+use Rattle.parts.specs.declared.Step.the-variants.{Part, End, Refused}
+use Rattle.emulator.specs.Machine.{Emulator, emulatorOf}
+use Rattle.emulator.specs.Effect.{effectOf, outcomeOf, after, filled}
+use Rattle.emulator.specs.Requests.{Request, getApiVersion, checkExtension, getIommuInfo, mapDma, unmapDma, getInfo, getRegionInfo, getIrqInfo, resetDevice, Entry, argszChecks, listedChecks, sizeChecks, requestChecks}
+use Rattle.emulator.specs.Calls.{Call, powerOn, request, lookUp, deviceRead, deviceWrite, hostWrite, hostRead, invalidate, setRegister, readRegister, loadParts, saveParts, stop, start, ownChecks, checks, effect, outcome}
+use Rattle.emulator.specs.Contract.{Meets, returned}
+use Rattle.emulator.specs.declared.State.{State}
+use Rattle.assurance.specs.Demand1.{Listed, stepVerdict, Unchanged, Demand1}
+use Rattle.assurance.proofs.Answers.{refused-fails}
+use Rattle.assurance.proofs.Listed.{at-listed, settle-listed, onward-listed, pick-either, listing}
+
+-- ---- requests
+
+argsz-listed : (t : Bool) (size : ℕ) (buf : List ℕ) → Listed (argszChecks t size buf)
+unfolding argszChecks
+argsz-listed false size buf = search listing
+argsz-listed true size buf = search listing
+
+listed-listed : (q : Request) (buf : List ℕ) (e : Emulator) → Listed (listedChecks q buf e)
+unfolding listedChecks mapChecks unmapChecks
+listed-listed getApiVersion buf e = search listing
+listed-listed checkExtension buf e = search listing
+listed-listed getIommuInfo buf e = search listing
+listed-listed mapDma buf e = search listing depth 10
+listed-listed unmapDma buf e = search listing depth 10
+listed-listed getInfo buf e = search listing
+listed-listed getRegionInfo buf e = search listing
+listed-listed getIrqInfo buf e = search listing
+listed-listed resetDevice buf e = search listing
+
+request-listed : (o : Option Entry) (buf : List ℕ) (e : Emulator) → Listed (requestChecks o buf e)
+unfolding sizeChecks requestChecks
+request-listed none buf e = search listing
+request-listed (some r) buf e = search (listing, argsz-listed, listed-listed)
+
+-- ---- transfers
+
+read-fault-listed : (shadow : List ℕ) (t : Translation) → Listed (readFault shadow t)
+unfolding readFault unwrittenAt
+read-fault-listed shadow (At a rights) = search listing
+read-fault-listed shadow Nowhere = search listing
+
+write-fault-listed : (t : Translation) → Listed (writeFault t)
+unfolding writeFault
+write-fault-listed (At a rights) = search listing
+write-fault-listed Nowhere = search listing
+
+-- ---- registers and streams
+
+value-listed : (i : ℕ) (twice : Bool) (v : List ℕ) → Listed (valueChecks i twice v)
+unfolding valueChecks contentChecks
+value-listed i twice v = search listing depth 10
+
+on-listed : (v : Verdict) (part : Step) → Listed v → Listed (stepVerdict part) → Listed (stepVerdict (stepOn v part))
+unfolding stepOn stepVerdict
+on-listed Pass part h k = k
+on-listed (Fail code place) part h k = h
+
+step-listed : (s : List ℕ) (p : ℕ) → Listed (stepVerdict (stepAt s p))
+unfolding stepAt partStep headerChecks partAt stepVerdict
+step-listed s p =
+    let P : Step → Type 0 = λ x. Listed (stepVerdict x) in
+    pick-either P _ _ _ (search listing) (pick-either P _ _ _ (search listing) (on-listed _ _ (search listing depth 10) (search listing)))
+
+part-listed : (twice : Bool) (kind flags selector : ℕ) (v : List ℕ) → Listed (partChecks twice kind flags selector v)
+unfolding partChecks listedPartChecks
+part-listed twice kind flags selector v = search (listing, value-listed) depth 10
+
+finish-listed : (seen : Seen) (p : ℕ) → Listed (verdict (finish seen p))
+unfolding finish
+finish-listed seen p = settle-listed _ _ (search listing)
+
+on-step-listed : (more : ℕ → Seen → Answer File) → ((p : ℕ) (seen : Seen) → Listed (verdict (more p seen)))
+    → (s : List ℕ) (p : ℕ) (seen : Seen) (x : Step) → Listed (stepVerdict x) → Listed (verdict (onStep more s p seen x))
+unfolding onStep stepVerdict verdict
+on-step-listed more rest s p seen End h = finish-listed seen p
+on-step-listed more rest s p seen (Refused code place) h = h
+on-step-listed more rest s p seen (Part kind flags selector next) h =
+    onward-listed _ _ (settle-listed _ _ (at-listed _ p (part-listed _ kind flags selector _))) (rest next)
+
+load-from-listed : (fuel : ℕ) (s : List ℕ) (p : ℕ) (seen : Seen) → Listed (verdict (loadFrom fuel s p seen))
+unfolding loadFrom verdict
+load-from-listed zero s p seen = search listing
+load-from-listed (suc fuel) s p seen = on-step-listed (loadFrom fuel s) (load-from-listed fuel s) s p seen _ (step-listed s p)
+
+load-listed : (running : Bool) (s : List ℕ) → Listed (verdict (load running s))
+unfolding load lengthCheck
+load-listed running s = onward-listed _ _ (settle-listed _ _ (search listing)) (load-from-listed _ s 0)
+
+-- ---- every call
+
+own-checks-listed : (c : Call) (buf : List ℕ) (e : Emulator) → Listed (ownChecks c buf e)
+unfolding ownChecks translateChecks deviceReadChecks deviceWriteChecks transferChecks lengthCheck hostWriteChecks hostReadChecks unwrittenIn unwrittenAt invalidateChecks setChecks selectorChecks readChecks saveChecks
+own-checks-listed powerOn buf e = search listing
+own-checks-listed (request target number) buf e = request-listed _ buf e
+own-checks-listed (lookUp d) buf e = search listing
+own-checks-listed (deviceRead d) buf e = search (listing, read-fault-listed)
+own-checks-listed (deviceWrite d) buf e = search (listing, write-fault-listed)
+own-checks-listed (hostWrite a) buf e = search listing
+own-checks-listed (hostRead a) buf e = search listing
+own-checks-listed (invalidate a n) buf e = search listing
+own-checks-listed (setRegister kind selector) buf e = search (listing, value-listed) depth 10
+own-checks-listed (readRegister kind selector) buf e = search listing depth 10
+own-checks-listed loadParts buf e = load-listed _ buf
+own-checks-listed saveParts buf e = search listing
+own-checks-listed stop buf e = search listing
+own-checks-listed start buf e = search listing
+
+checks-listed : (c : Call) (buf : List ℕ) (e : Emulator) → Listed (checks c buf e)
+unfolding checks
+checks-listed c buf e = search (listing, own-checks-listed)
+
+-- ---- refusals
+
+unchanged : (c : Call) (buf : List ℕ) (e : Emulator) (code place : ℕ) → outcome c buf e .answer ≡ refused code place → Unchanged buf e (outcome c buf e .effect)
+unfolding outcome outcomeOf effectOf filled after edited
+unchanged c buf e code place h =
+    rw (refused-fails c buf e code place h) (record { pieces = refl; edits = refl; machine = refl; buffer = refl; emulator = refl })
+
+kept : (c : Call) (buf buf′ : List ℕ) (s s′ : State) (m m′ : Memory) (code place : ℕ) → Meets c buf s m (refused code place) buf′ m′ s′
+    → (buf′ ≡ buf) × (m′ ≡ m) × (s′ ≡ s)
+unfolding returned after emulatorOf
+kept c buf buf′ s s′ m m′ code place h =
+    let e : Emulator = emulatorOf s m in
+    let u = unchanged c buf e code place (sym (h .answer)) in
+    (h .buffer ∙ u .buffer, h .memory ∙ ap (λ (x : Emulator). x .memory) (u .emulator), h .state ∙ rw (refused-fails c buf e code place (sym (h .answer))))
+
+pub demand1 : Demand1
+unfolding outcome outcomeOf
+demand1 = record { listed = λ c buf e. settle-listed _ _ (checks-listed c buf e); unchanged = unchanged; kept = kept; steps = step-listed }

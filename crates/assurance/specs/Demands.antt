@@ -1,0 +1,31 @@
+-- The demands on the emulator, as one type: start reading here. proofs/Demands.antt has its term.
+--
+-- What a call means is its `outcome` (emulator/specs/Calls.antt): its answer, and all that it writes and leaves. That the code does just that
+-- is the contract of each public function, `Meets` (emulator/specs/Contract.antt), for any arguments, buffer, memory and state:
+--     crates/emulator/src/lib.rt   fresh start, look-up, transfers, invalidation, registers, parts, stop and start
+--     crates/vfio/src/lib.rt       requests
+--     crates/capi/src/lib.rt       all of these, as C calls them
+-- A walker step over a stream of parts means `stepAt` (parts/specs/Step.antt); so promise crates/parts/src/lib.rt and crates/reader/src/lib.rt.
+-- specs/Examples.antt works out two runs; tests/definitions/ has edits of definitions that the proofs below refuse, all but that of `sessions`.
+use Rattle.parts.specs.RoundTrip.{RoundTrip}
+use Rattle.assurance.specs.Demand1.{Demand1}
+use Rattle.assurance.specs.SaveLoad.{SaveLoad}
+use Rattle.assurance.specs.Starred.{Starred}
+use Rattle.assurance.specs.Demand3.{Demand3}
+use Rattle.assurance.specs.Session.{Sessions}
+
+pub record Demands : Type 0 where
+  -- Demand 1. Whatever a call is given, it answers: success, or a refusal by one of 27 numbers, which changes nothing.
+  pub demand1 : Demand1
+  -- Demand 2. Each call does what its rule says: that is its contract, above. What is asked of calls together, and of worked values:
+  -- the stream that is saved of a sound register file loads to the same file;
+  pub roundTrip : RoundTrip
+  -- what an accepted save leaves in its buffer, any sound, stopped device loads, and has the saved registers then;
+  pub saveLoad : SaveLoad
+  -- the worked values are right, each an answer and a whole buffer.
+  pub starred : Starred
+  -- Demand 3. For every list of calls, whatever others write meanwhile to unwritten memory and to stale bytes of buffers: emulators that
+  -- differ in nothing but those answer and write the same; and from a fresh start on, accepted reads give what the ledger holds;
+  pub demand3 : Demand3
+  -- and so do sessions of the code, in which each call meets its contract.
+  pub sessions : Sessions

@@ -1,0 +1,72 @@
+-- Sessions: lists of calls of the code, each of which meets its contract. They are runs, so what demand 3 says of runs
+-- (rules 8.7 and 8.8) holds of the code.
+use Prim.Native.Nat.{ℕ, suc}
+use mathlib.Core.Path.{_≡_}
+use mathlib.Core.Logic.{_↔_}
+use mathlib.Core.List.{List, [], _∷_, map}
+use lib.ListN.{length}
+use Rattle.answer.specs.Answer.{Answer, done}
+use Rattle.memory.specs.Memory.{Memory}
+use Rattle.emulator.specs.Machine.{Emulator, emulatorOf}
+use Rattle.emulator.specs.Effect.{Result, value, Piece, filled}
+use Rattle.emulator.specs.Calls.{powerOn}
+use Rattle.emulator.specs.Contract.{Meets}
+use Rattle.emulator.specs.declared.State.{State}
+use Rattle.assurance.specs.Runs.{Ask, Others, disturbed, lentTo, Event, run, Same}
+use Rattle.assurance.specs.Ledger.{Ledger, empty, fed, OwedIf}
+
+-- what a caller sees of one call: the answer, the whole buffer, and the emulator that the state and the memory left make
+pub record Shown : Type 0 where
+  pub answer : Answer Result
+  pub buffer : List ℕ
+  pub left : Emulator
+
+unfoldable pub shown : Event → Shown
+shown e = record { answer = e .outcome .answer; buffer = e .buffer; left = e .left }
+
+-- From the state `s` and the memory `m`, the code's calls of a list show `xs`: each call meets its contract, once others have written (`w`),
+-- and gets the state and the memory that the last one left.
+pub data Session : State → Memory → List Ask → (ℕ → Others) → List Shown → Type 0 where
+  none : {s : State} {m : Memory} {w : ℕ → Others} → Session s m [] w []
+  more : {s s′ : State} {m m′ : Memory} {q : Ask} {qs : List Ask} {w : ℕ → Others} {r : Answer Result} {buf′ : List ℕ} {xs : List Shown}
+      → Meets (q .call) (lentTo (w 0) q) s (disturbed (w 0) (emulatorOf s m) .memory) r buf′ m′ s′
+      → Session s′ m′ qs (λ n. w (suc n)) xs
+      → Session s m (q ∷ qs) w (record { answer = r; buffer = buf′; left = emulatorOf s′ m′ } ∷ xs)
+
+-- A list of what calls show is a session of the code exactly if it is what the run of those calls shows.
+unfoldable pub SessionsAreRuns : Type 0
+SessionsAreRuns = (s : State) (m : Memory) (qs : List Ask) (w : ℕ → Others) (xs : List Shown)
+    → Session s m qs w xs ↔ (xs ≡ map shown (run (emulatorOf s m) qs w))
+
+-- One call on two sides, with others writing `w` on the one and `v` on the other: the same answer; the same bytes written to the buffers,
+-- at the same offsets, over what others left there; and emulators that are the same again, in every byte of memory that is written.
+pub record Agree (q : Ask) (w v : Others) (x y : Shown) : Type 0 where
+  pub answer : x .answer ≡ y .answer
+  pub pieces : List Piece
+  pub first : x .buffer ≡ filled pieces (lentTo w q)
+  pub second : y .buffer ≡ filled pieces (lentTo v q)
+  pub left : Same (x .left) (y .left)
+
+-- two sessions of one list, call by call
+unfoldable pub AllAgree : List Ask → (ℕ → Others) → (ℕ → Others) → List Shown → List Shown → Type 0
+AllAgree [] w v xs ys = Unit
+AllAgree (q ∷ qs) w v [] ys = ⊥
+AllAgree (q ∷ qs) w v (x ∷ xs) [] = ⊥
+AllAgree (q ∷ qs) w v (x ∷ xs) (y ∷ ys) = Agree q (w 0) (v 0) x y × AllAgree qs (λ n. w (suc n)) (λ n. v (suc n)) xs ys
+
+-- a session against the ledger, call by call: an accepted read shows the bytes that the ledger holds, and each accepted call is entered
+unfoldable pub AllOwed : Ledger → List Ask → List Shown → Type 0
+AllOwed l [] xs = Unit
+AllOwed l (q ∷ qs) [] = ⊥
+AllOwed l (q ∷ qs) (x ∷ xs) = OwedIf (x .answer) l (q .call) (length (q .buffer)) (x .buffer) × AllOwed (fed (x .answer) q l) qs xs
+
+-- Demand 3 of the code. For every list of calls, each with any arguments and any buffer, and whatever others write before each call:
+pub record Sessions : Type 0 where
+  -- its sessions are its runs;
+  pub runs : SessionsAreRuns
+  -- two sessions, on states and memories that make the same emulator but for unwritten bytes, agree call by call;
+  pub agreement : (s t : State) (m n : Memory) → Same (emulatorOf s m) (emulatorOf t n) → (qs : List Ask) (w v : ℕ → Others) (xs ys : List Shown)
+      → Session s m qs w xs → Session t n qs v ys → AllAgree qs w v xs ys
+  -- in a session that begins with an accepted fresh start, and with a ledger empty then, every accepted read shows what the ledger holds.
+  pub ledger : (s : State) (m : Memory) (buf : List ℕ) (qs : List Ask) (w : ℕ → Others) (x : Shown) (xs : List Shown)
+      → Session s m (record { call = powerOn; buffer = buf } ∷ qs) w (x ∷ xs) → x .answer ≡ done (value 0) → AllOwed empty qs xs

@@ -1,0 +1,72 @@
+-- Answers as C has them (rule 8.11). Each definition gives a struct whole: what an answer has no use for is 0.
+use Prim.Native.Nat.{ℕ, _+_, _-_}
+use mathlib.Core.Bool.{Bool, true, false, not, cond}
+use Rattle.answer.specs.Answer.{Answer, done, refused}
+use Rattle.address.specs.Address.{memoryAddress}
+use Rattle.emulator.specs.Effect.{Result, value, location}
+use Rattle.emulator.specs.Contract.{withRegistersIn}
+use Rattle.emulator.specs.declared.State.{State}
+use Rattle.parts.specs.Step.{headerSize}
+use Rattle.parts.specs.declared.Step.{Step}
+use Rattle.parts.specs.declared.Step.the-variants.{Part, End, Refused}
+use Rattle.reader.specs.Read.{nextPlace}
+use Rattle.capi.specs.declared.Outcome.{Outcome}
+use Rattle.capi.specs.declared.Found.{Found}
+use Rattle.capi.specs.declared.LoadReply.{LoadReply}
+use Rattle.capi.specs.declared.PartStep.{PartStep}
+
+abbrev pub success : ℕ → Outcome
+success n = record { refused = false; code = 0; place = 0; result = n }
+
+abbrev pub refusal : ℕ → ℕ → Outcome
+refusal code place = record { refused = true; code = code; place = place; result = 0 }
+
+-- the answer of a call; look-up's has its values beside it
+abbrev pub answerStruct : Answer Result → Outcome
+answerStruct (done (value n)) = success n
+answerStruct (done (location a rights)) = success 0
+answerStruct (refused code place) = refusal code place
+
+-- look-up's answer
+abbrev pub foundStruct : Answer Result → Found
+foundStruct (done (value n)) = record { outcome = success n; address = memoryAddress 0; rights = 0 }
+foundStruct (done (location a rights)) = record { outcome = success 0; address = a; rights = rights }
+foundStruct (refused code place) = record { outcome = refusal code place; address = memoryAddress 0; rights = 0 }
+
+-- a step that found no part: refused, or at the end; the walk goes on at `next`
+abbrev pub noPart : Bool → ℕ → ℕ → ℕ → PartStep
+noPart stopped code place next =
+    record {
+      refused = stopped;
+      end = not stopped;
+      code = code;
+      place = place;
+      kind = 0;
+      flags = 0;
+      selector = 0;
+      «value_start» = 0;
+      «value_length» = 0;
+      next = next;
+    }
+
+-- the step at place `p`: a part, with the bounds of its value in the stream; the end; or a refusal
+abbrev pub stepStruct : ℕ → Step → PartStep
+stepStruct p (Part kind flags selector next) =
+    record {
+      refused = false;
+      end = false;
+      code = 0;
+      place = 0;
+      kind = kind;
+      flags = flags;
+      selector = selector;
+      «value_start» = p + headerSize;
+      «value_length» = next - (p + headerSize);
+      next = nextPlace (Part kind flags selector next) p;
+    }
+stepStruct p End = noPart false 0 0 (nextPlace End p)
+stepStruct p (Refused code place) = noPart true code place (nextPlace (Refused code place) p)
+
+-- the state to keep after loading: with the registers that were loaded where it was accepted, else as it was
+abbrev pub keptBy : LoadReply → State → State
+keptBy l s = cond (l .outcome .refused) s (withRegistersIn (l .registers) s)
