@@ -1,4 +1,5 @@
 pub mod Rows
+pub mod PowersOfTwo
 pub mod Values
 pub mod File
 pub mod Access

@@ -1,18 +1,16 @@
 -- Laws of what a value must satisfy.
-use Prim.Native.Nat.{ℕ, zero, suc, _%_, _^_, _≤_, _<_}
-use native.Mathlib.Nat.{mod-eq-of-lt}
-use native.Mathlib.Omega.{arith}
-use mathlib.Core.Path.{_≡_, refl, sym, _∙_}
-use mathlib.Core.Bool.{Bool, true, false, false≢true}
+use Prim.Native.Nat.{ℕ, _%_, _≤_}
+use mathlib.Core.Path.{_≡_, refl, sym}
+use mathlib.Core.Bool.{Bool, true, false}
 use mathlib.Core.List.{List, []}
 use lib.ListN.{length}
-use lib.Dec.{eqb, ltb}
-use borrow.Author.Tests.{eq-eqb, ne-eqb, leb-true, le-leb, eqb-true, ltb-true, ltb-false}
-use Rattle.answer.specs.Tests.{_and_, _or_, pick}
+use lib.Dec.{eqb}
+use borrow.Author.Tests.{eq-eqb, leb-true, le-leb, eqb-true}
+use Rattle.answer.specs.Tests.{_and_}
 use Rattle.answer.specs.Codes.{Value}
 use Rattle.answer.specs.Checks.{_then_, _unless_}
 use Rattle.answer.specs.declared.Verdict.the-variants.{Pass, Fail}
-use Rattle.answer.proofs.Tests.{and-true, is-false, below, below-at}
+use Rattle.answer.proofs.Tests.{and-true, is-false}
 use Rattle.answer.proofs.Checks.{then-pass, unless-pass}
 use Rattle.wire.specs.Field.{field}
 use Rattle.registers.specs.Rows.{statusRow, sizeOf}
@@ -24,46 +22,6 @@ use Rattle.registers.specs.Values.{powerOfTwo, validQueue, valueChecks}
 pub length-first : valueChecks statusRow true [] ≡ Fail Value 0
 unfolding valueChecks sizeOf _then_ _unless_
 length-first = refl
-
--- ---- powers of two
-
--- two tests that say the same
-unfoldable same : Bool → Bool → Bool
-same true t = t
-same false true = false
-same false false = true
-
-same-eq : (s t : Bool) → same s t ≡ true → s ≡ t
-unfolding same
-same-eq true t h = sym h
-same-eq false true h = absurd (false≢true h)
-same-eq false false h = refl
-
-unfoldable pub divides : ℕ → Bool
-divides n = pick (eqb n 0) false (eqb (256 % n) 0)
-
-power-small : (n : ℕ) → n < 257 → divides n ≡ powerOfTwo 8 n
-unfolding below _and_ _or_ pick same divides powerOfTwo
-power-small n h = same-eq _ _ (below-at (λ n. same (divides n) (powerOfTwo 8 n)) 257 refl n h)
-
-power-most : (k n : ℕ) → 2 ^ k < n → powerOfTwo k n ≡ false
-unfolding powerOfTwo _or_
-power-most zero n h = ne-eqb n 1 (λ e. omega arith)
-power-most (suc k) n h = rw (ne-eqb n (2 ^ suc k) (λ e. omega arith)) (power-most k n (omega arith))
-
-divides-most : (n : ℕ) → 256 < n → divides n ≡ false
-unfolding divides pick
-divides-most n h =
-    let z : n ≡ 0 → ⊥ = λ e. omega arith in
-    rw (ne-eqb _ _ z, mod-eq-of-lt h)
-
--- a power of two up to 256 is what divides 256
-pub power-is : (n : ℕ) → divides n ≡ powerOfTwo 8 n
-power-is n = go (ltb n 257) refl
-  where
-    go : (t : Bool) → ltb n 257 ≡ t → divides n ≡ powerOfTwo 8 n
-    go true e = power-small n (ltb-true _ _ e)
-    go false e = divides-most n (ltb-false _ _ e) ∙ sym (power-most 8 n (ltb-false _ _ e))
 
 -- ---- a queue's value
 

@@ -21,7 +21,7 @@ offered = 0x130000000
 unfoldable pub onlyOffered : ℕ → Bool
 onlyOffered features = eqb (bitAnd features offered) features
 
--- one of 2 ^ 0 to 2 ^ k
+-- one of 2 ^ 0 to 2 ^ k; the code counts ones (rule 8.13)
 unfoldable pub powerOfTwo : ℕ → ℕ → Bool
 powerOfTwo zero n = eqb n 1
 powerOfTwo (suc k) n = eqb n (2 ^ suc k) or powerOfTwo k n

@@ -179,14 +179,14 @@ fn only_offered(features: u64) -> bool
     features & OFFERED == features
 }
 
-// A power of two from 1 to 256: a divisor of 256.
+// A power of two from 1 to 256: one of its binary digits is 1.
 fn is_power_of_two(n: u16) -> bool
     ensures { λ r. ⌜ r ≡ powerOfTwo 8 n ⌝ }
 {
-    if n == 0 {
+    if 256 < n {
         return false;
     }
-    256 % n == 0
+    u16::count_ones(n) == 1
 }
 
 fn is_valid_queue(v: &[u8]) -> bool
