@@ -1,20 +1,22 @@
 -- Laws of what a value must satisfy.
-use Prim.Native.Nat.{ℕ, _%_, _≤_}
+use Prim.Native.Nat.{ℕ, _+_, _*_, _%_, _≤_}
+use native.Mathlib.Omega.{arith}
 use mathlib.Core.Path.{_≡_, refl, sym}
 use mathlib.Core.Bool.{Bool, true, false}
 use mathlib.Core.List.{List, []}
 use lib.ListN.{length}
 use lib.Dec.{eqb}
-use borrow.Author.Tests.{eq-eqb, leb-true, le-leb, eqb-true}
-use Rattle.answer.specs.Tests.{_and_}
+use borrow.Author.Tests.{eq-eqb, ne-eqb, leb-true, le-leb, eqb-true}
+use Rattle.answer.specs.Tests.{_and_, _or_}
 use Rattle.answer.specs.Codes.{Value}
 use Rattle.answer.specs.Checks.{_then_, _unless_}
 use Rattle.answer.specs.declared.Verdict.the-variants.{Pass, Fail}
-use Rattle.answer.proofs.Tests.{and-true, is-false}
+use Rattle.answer.proofs.Tests.{and-true, and-made, or-none, is-false, same-test}
 use Rattle.answer.proofs.Checks.{then-pass, unless-pass}
 use Rattle.wire.specs.Field.{field}
+use Rattle.wire.proofs.Laws.{field-split}
 use Rattle.registers.specs.Rows.{statusRow, sizeOf}
-use Rattle.registers.specs.Values.{powerOfTwo, validQueue, valueChecks}
+use Rattle.registers.specs.Values.{validQueue, valueChecks, powerOfTwo, validSize}
 
 -- ---- the order of the checks
 
@@ -25,9 +27,18 @@ length-first = refl
 
 -- ---- a queue's value
 
+-- the code's test of the size, by cases
+pub size-none : (size enabled : ℕ) → size ≡ 0 → eqb enabled 0 ≡ validSize size enabled
+unfolding _or_ _and_ powerOfTwo
+size-none size enabled e = rw e
+
+pub size-some : (size enabled : ℕ) → (size ≡ 0 → ⊥) → powerOfTwo 8 size ≡ validSize size enabled
+unfolding _and_
+size-some size enabled h = rw (ne-eqb _ _ h) (or-none _)
+
 -- what a valid one satisfies
 pub record Queue (v : List ℕ) : Type 0 where
-  pub size : powerOfTwo 8 (field v 0 2) ≡ true
+  pub size : validSize (field v 0 2) (field v 4 2) ≡ true
   pub enabled : field v 4 2 ≤ 1
   pub reserved : field v 6 2 ≡ 0
   pub descriptors : field v 8 8 % 16 ≡ 0
@@ -54,11 +65,28 @@ queue-says v h =
 pub no-queue : (v : List ℕ) → (Queue v → ⊥) → false ≡ validQueue v
 no-queue v h = sym (is-false _ (λ t. h (queue-says v t)))
 
--- the last test decides where the others hold
-pub queue-last : (v : List ℕ) → powerOfTwo 8 (field v 0 2) ≡ true → field v 4 2 ≤ 1 → field v 6 2 ≡ 0 → field v 8 8 % 16 ≡ 0 → field v 16 8 % 2 ≡ 0
-    → eqb (field v 24 8 % 4) 0 ≡ validQueue v
-unfolding validQueue _and_
-queue-last v a b c d e = rw (a, le-leb _ _ b, eq-eqb _ _ c, eq-eqb _ _ d, eq-eqb _ _ e)
+-- enabled and reserved, read as one number
+pub queue-state : (v : List ℕ) → field v 4 4 ≡ field v 4 2 + 65536 * field v 6 2
+queue-state v = field-split v 4 2 2
+
+-- the sum of the remainders decides where the other tests hold
+pub queue-last : (v : List ℕ) → field v 4 4 ≤ 1 → validSize (field v 0 2) (field v 4 4) ≡ true
+    → eqb (field v 8 8 % 16 + field v 16 8 % 2 + field v 24 8 % 4) 0 ≡ validQueue v
+unfolding validQueue
+queue-last v small size =
+    let s = queue-state v in
+    let low : field v 4 4 ≡ field v 4 2 = omega arith in
+    same-test _ _
+    (λ t.
+    let sum : field v 8 8 % 16 + field v 16 8 % 2 + field v 24 8 % 4 ≡ 0 = eqb-true _ _ t in
+    let enabled : field v 4 2 ≤ 1 = omega arith in
+    let reserved : field v 6 2 ≡ 0 = omega arith in
+    let descriptors : field v 8 8 % 16 ≡ 0 = omega arith in
+    let driver : field v 16 8 % 2 ≡ 0 = omega arith in
+    let device : field v 24 8 % 4 ≡ 0 = omega arith in
+    let flags = and-made _ _ (and-made _ _ (rw low at size) (le-leb _ _ enabled)) (eq-eqb _ _ reserved) in
+    and-made _ _ (and-made _ _ (and-made _ _ flags (eq-eqb _ _ descriptors)) (eq-eqb _ _ driver)) (eq-eqb _ _ device))
+    (λ t. let q = queue-says v t in eq-eqb (field v 8 8 % 16 + field v 16 8 % 2 + field v 24 8 % 4) 0 (omega arith))
 
 -- ---- all checks of a value
 

@@ -26,11 +26,15 @@ unfoldable pub powerOfTwo : ℕ → ℕ → Bool
 powerOfTwo zero n = eqb n 1
 powerOfTwo (suc k) n = eqb n (2 ^ suc k) or powerOfTwo k n
 
+-- rule 5.20: size 0 says that the queue is unavailable, so no such queue is enabled
+abbrev pub validSize : ℕ → ℕ → Bool
+validSize size enabled = powerOfTwo 8 size or (eqb size 0 and eqb enabled 0)
+
 -- rule 5.3: size, vector (any), enabled and reserved of 2 bytes each, then the addresses of descriptors, driver area and device area of 8
 -- each; their alignments are 16, 2 and 4
 unfoldable pub validQueue : List ℕ → Bool
 validQueue v =
-    powerOfTwo 8 (field v 0 2)
+    validSize (field v 0 2) (field v 4 2)
     and leb (field v 4 2) 1
     and eqb (field v 6 2) 0
     and eqb (field v 8 8 % 16) 0

@@ -11,7 +11,7 @@ ghost use Rattle.answer.specs.Checks.{_unless_, passes as passesAll};
 ghost use Rattle.answer.specs.declared.Verdict.the-variants.{Pass};
 ghost use Rattle.wire.specs.Field.{bytesOf};
 ghost use Rattle.registers.specs.Rows.{CommonField, rowCount, kindOf, selectorOf, sizeOf, rowOf, listed, selectorWidth};
-ghost use Rattle.registers.specs.Values.{offered as offeredBits, onlyOffered, powerOfTwo, validQueue, contentChecks, valueChecks};
+ghost use Rattle.registers.specs.Values.{offered as offeredBits, onlyOffered, powerOfTwo, validSize, validQueue, contentChecks, valueChecks};
 ghost use Rattle.registers.specs.File.{current as currentIn, blank as blankFile, reset as resetFile, soundValue, soundFile, registerValue, fileOf, registerOf, slotsOf};
 ghost use Rattle.registers.specs.Access.{selectorChecks, setChecks, readChecks, readValue};
 
@@ -189,26 +189,29 @@ fn is_power_of_two(n: u16) -> bool
     u16::count_ones(n) == 1
 }
 
+// Size 0 says that the queue is unavailable.
+fn is_valid_size(size: u16, enabled: u32) -> bool
+    ensures { λ r. ⌜ r ≡ validSize size enabled ⌝ }
+{
+    if size == 0 {
+        return enabled == 0;
+    }
+    is_power_of_two(size)
+}
+
+// Few tests, since soundness asks them of every queue in every call: enabled and reserved are one number, and the remainders one sum.
 fn is_valid_queue(v: &[u8]) -> bool
     requires { ⌜ length (now v) ≡ 32 ⌝ }
     ensures { λ r. ⌜ r ≡ validQueue (now (v .entry)) ⌝ }
 {
-    if !is_power_of_two(wire::get_u16(v, 0)) {
+    let enabled = wire::get_u32(v, 4);
+    if 1 < enabled {
         return false;
     }
-    if 1 < wire::get_u16(v, 4) {
+    if !is_valid_size(wire::get_u16(v, 0), enabled) {
         return false;
     }
-    if wire::get_u16(v, 6) != 0 {
-        return false;
-    }
-    if wire::get_u64(v, 8) % 16 != 0 {
-        return false;
-    }
-    if wire::get_u64(v, 16) % 2 != 0 {
-        return false;
-    }
-    wire::get_u64(v, 24) % 4 == 0
+    wire::get_u64(v, 8) % 16 + wire::get_u64(v, 16) % 2 + wire::get_u64(v, 24) % 4 == 0
 }
 
 fn fail_unless(code: u32, good: bool) -> Verdict

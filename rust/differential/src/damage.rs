@@ -13,7 +13,7 @@ const MEMORY_LIMIT: u64 = 1 << 30;
 
 /// The causes: what rule 1.12 rules out.
 #[rustfmt::skip]
-pub const CAUSES: [&str; 19] = [
+pub const CAUSES: [&str; 20] = [
     "more than 64 mappings",
     "mappings out of order",
     "mappings that overlap",
@@ -32,6 +32,7 @@ pub const CAUSES: [&str; 19] = [
     "status not set",
     "driver features not offered",
     "queue value",
+    "enabled queue of size 0",
     "notify value",
 ];
 
@@ -141,13 +142,25 @@ pub fn damaged(sound: &State, random: &mut Random) -> (usize, State) {
             let mut value = streams::good_value(0x104, 32, random);
             // Of the ways to spoil it, those that leave it good are left out.
             match random.below(6) {
-                0 => value[..2].copy_from_slice(&random.pick(&[0u16, 3, 512, 257]).to_le_bytes()),
+                0 => {
+                    value[..2].copy_from_slice(&random.pick(&[0u16, 3, 512, 257]).to_le_bytes());
+                    value[4] = 1; // size 0 is good where the queue is not enabled
+                }
                 1 => value[4..6].copy_from_slice(&random.pick(&[2u16, 256]).to_le_bytes()),
                 2 => value[6 + random.below(2) as usize] = random.pick(&[1, 128]),
                 3 => value[8] |= random.pick(&[1, 2, 4, 8]),
                 4 => value[16] |= 1,
                 _ => value[24] |= random.pick(&[1, 2]),
             }
+            register.bytes.copy_from_slice(&value);
+        }
+        "enabled queue of size 0" => {
+            let slot = 6 + random.below(4) as usize;
+            let register = &mut state.registers.slots[slot];
+            register.set = 1;
+            let mut value = streams::good_value(0x104, 32, random);
+            value[..2].fill(0);
+            value[4] = 1;
             register.bytes.copy_from_slice(&value);
         }
         "notify value" => {

@@ -13,7 +13,7 @@ const TOP: u64 = 1 << 48;
 const LONGEST: usize = 65_536;
 
 #[rustfmt::skip]
-pub const EVENTS: [&str; 26] = [
+pub const EVENTS: [&str; 30] = [
     "card read of 65,536 bytes accepted",
     "card write of 65,536 bytes accepted",
     "host store of 65,536 bytes accepted",
@@ -40,6 +40,10 @@ pub const EVENTS: [&str; 26] = [
     "host load of a byte with a mark above 1 gives 16",
     "save of a state whose byte for running is above 1 accepted",
     "read of a register whose byte for set is above 1 gives 25",
+    "queue of size 0 set",
+    "enabled queue of size 0 gives 22 when set",
+    "load that leaves a queue of size 0",
+    "save of a queue of size 0",
 ];
 
 #[derive(Default)]
@@ -62,6 +66,14 @@ pub struct Before {
     /// The flags of the kept struct: whether the one for running is above 1, and whether each register's is.
     running_above: bool,
     set_above: [bool; SLOTS.len()],
+}
+
+/// Whether a queue of size 0 is set.
+fn has_empty_queue(trio: &Trio) -> bool {
+    let registers = &trio.state.registers;
+    registers
+        .iter()
+        .any(|(&(kind, _), value)| kind == 0x104 && value[..2] == [0, 0])
 }
 
 impl Events {
@@ -189,10 +201,20 @@ impl Events {
             Call::LoadParts => {
                 self.saw(18, done && length == LONGEST);
                 self.saw(19, done && trio.state.registers.len() < before.registers);
+                self.saw(28, done && has_empty_queue(trio));
             }
             Call::SaveParts => {
                 self.saw(20, *answer == Answer::Done(length as u64));
                 self.saw(24, done && before.running_above);
+                self.saw(29, done && has_empty_queue(trio));
+            }
+            Call::SetRegister { kind: 0x104, .. } if length == 32 => {
+                let empty = made.buffer[..2] == [0, 0];
+                self.saw(26, done && empty);
+                self.saw(
+                    27,
+                    refused == 22 && empty && made.buffer[4..8] == [1, 0, 0, 0],
+                );
             }
             Call::ReadRegister { kind, selector } => {
                 let slot = SLOTS

@@ -13,9 +13,12 @@ pub fn good_value(kind: u64, length: usize, random: &mut Random) -> Vec<u8> {
         0x100 => value.copy_from_slice(&OFFERED.to_le_bytes()),
         0x101 => value.copy_from_slice(&(random.number() & OFFERED).to_le_bytes()),
         0x104 => {
-            let size = 1u16 << random.below(9);
+            // Size 0 only where the queue is not enabled.
+            let available = !random.one_in(6);
+            let size = u16::from(available) << random.below(9);
+            let enabled = available && random.one_in(2);
             value[..2].copy_from_slice(&size.to_le_bytes());
-            value[4..8].copy_from_slice(&[random.below(2) as u8, 0, 0, 0]);
+            value[4..8].copy_from_slice(&[u8::from(enabled), 0, 0, 0]);
             value[8] &= 0xf0;
             value[16] &= 0xfe;
             value[24] &= 0xfc;

@@ -77,8 +77,10 @@ pub fn check_value(kind: u64, value: &[u8]) -> Answer<()> {
 /// size 0..2, vector 2..4, enabled 4..6, reserved 6..8, three addresses 8..16, 16..24, 24..32.
 fn good_queue(value: &[u8]) -> bool {
     const SIZES: [u64; 9] = [1, 2, 4, 8, 16, 32, 64, 128, 256];
-    SIZES.contains(&number_at(value, 0, 2))
-        && number_at(value, 4, 2) <= 1
+    let (size, enabled) = (number_at(value, 0, 2), number_at(value, 4, 2));
+    // Size 0 says that the queue is unavailable: it cannot be enabled.
+    (SIZES.contains(&size) || (size == 0 && enabled == 0))
+        && enabled <= 1
         && number_at(value, 6, 2) == 0
         && number_at(value, 8, 8).is_multiple_of(16)
         && number_at(value, 16, 8).is_multiple_of(2)
@@ -144,11 +146,29 @@ mod tests {
     }
 
     #[test]
-    fn queue_size_is_a_power_of_two_from_1_to_256() {
+    fn queue_size_is_0_or_a_power_of_two_up_to_256() {
         for size in 0..=0xffff {
-            let good = [1, 2, 4, 8, 16, 32, 64, 128, 256].contains(&size);
+            let good = [0, 1, 2, 4, 8, 16, 32, 64, 128, 256].contains(&size);
             let expected = if good { Ok(0) } else { refused(Refusal::Value) };
             assert_eq!(set_queue(&queue(0, 2, size)), expected, "{size}");
+        }
+    }
+
+    /// Rule 5.20: unavailable, so not enabled; the other rules hold as for any queue.
+    #[test]
+    fn a_queue_of_size_0_is_not_enabled() {
+        let with = |offset: usize, number: u64| {
+            let mut value = queue(0, 2, 0);
+            put_number(&mut value, offset, 2, number);
+            set_queue(&value)
+        };
+        assert_eq!(with(2, 0xffff), Ok(0));
+        for (offset, number) in [(4, 1), (4, 0x100), (6, 1), (8, 8), (16, 1), (24, 2)] {
+            assert_eq!(
+                with(offset, number),
+                refused(Refusal::Value),
+                "{number} at {offset}"
+            );
         }
     }
 

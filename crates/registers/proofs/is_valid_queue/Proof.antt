@@ -1,74 +1,72 @@
 -- `registers::is_valid_queue` meets its contract: each return is of the test that failed.
 use native.Mathlib.Omega.{arith}
-use mathlib.Core.Path.{_≡_, sym, _∙_, ap}
+use mathlib.Core.Path.{_≡_, sym, _∙_}
 use mathlib.Core.Bool.{true≢false}
 use borrow.Author.Tests.{not-true, not-false}
 use Rattle.wire.specs.Field.{field}
-use Rattle.registers.specs.Values.{powerOfTwo}
-use Rattle.registers.proofs.Values.{no-queue, queue-last}
+use Rattle.registers.specs.Values.{validSize}
+use Rattle.registers.proofs.Values.{no-queue, queue-state, queue-last}
 use borrow.Author.Needs.{needs}
 use Rattle.registers.proofs.is_valid_queue.Statement.{statement}
 use Rattle.registers.proofs.is_valid_queue.Tie as tie
 
+get-u32-requires : tie.Need-get-u32-requires
+get-u32-requires c κs = search needs
+
+returns : tie.Need-returns
+returns c = no-queue _ (λ q. omega (arith, queue-state (c .before .before .before .args .v .now)))
+
 get-u16-requires : tie.Need-get-u16-requires
 get-u16-requires c κs = search needs
 
-is-power-of-two-requires : tie.Need-is-power-of-two-requires
-is-power-of-two-requires c κs = search needs
+is-valid-size-requires : tie.Need-is-valid-size-requires
+is-valid-size-requires c κs = search needs
 
--- what the first test saw
-size : (c : tie.After-is-power-of-two) → c .is-power-of-two .result ≡ powerOfTwo 8 (field (c .before .before .before .args .v .now) 0 2)
-size c = c .is-power-of-two .ensures ∙ ap (powerOfTwo 8) (c .before .get-u16 .ensures)
-
-returns : tie.Need-returns
-returns c = no-queue _ (λ q. true≢false (sym (q .size) ∙ sym (size (c .before)) ∙ not-true _ (c .if1 .taken)))
-
-get-u16-requires-2 : tie.Need-get-u16-requires-2
-get-u16-requires-2 c κs = search needs
+-- what the test of the size saw
+size : (c : tie.After-is-valid-size)
+    → let v = c .before .before .before .before .before .args .v .now in c .is-valid-size .result ≡ validSize (field v 0 2) (field v 4 4)
+size c = c .is-valid-size .ensures ∙ rw (c .before .get-u16 .ensures, c .before .before .before .get-u32 .ensures)
 
 returns-2 : tie.Need-returns-2
-returns-2 c = no-queue _ (λ q. omega arith)
-
-get-u16-requires-3 : tie.Need-get-u16-requires-3
-get-u16-requires-3 c κs = search needs
-
-returns-3 : tie.Need-returns-3
-returns-3 c = no-queue _ (λ q. c .if3 .taken (omega arith))
+returns-2 c =
+    let s = c .before in
+    let v = s .before .before .before .before .before .args .v .now in
+    no-queue _ (λ q. let low : field v 4 4 ≡ field v 4 2 = omega (arith, queue-state v) in true≢false (sym (rw low (q .size)) ∙ sym (size s) ∙ not-true _ (c .if2 .taken)))
 
 get-u64-requires : tie.Need-get-u64-requires
 get-u64-requires c κs = search needs
 
-returns-4 : tie.Need-returns-4
-returns-4 c = no-queue _ (λ q. c .if4 .taken (omega arith))
-
 get-u64-requires-2 : tie.Need-get-u64-requires-2
 get-u64-requires-2 c κs = search needs
 
-returns-5 : tie.Need-returns-5
-returns-5 c = no-queue _ (λ q. c .if5 .taken (omega arith))
+add-result : tie.Need-add-result
+add-result c = search needs
 
 get-u64-requires-3 : tie.Need-get-u64-requires-3
 get-u64-requires-3 c κs = search needs
 
-returns-6 : tie.Need-returns-6
-returns-6 c =
-    let first = c .before .before .before .before .before .before .before .before .before in
-    rw (c .get-u643 .ensures) (queue-last _ (sym (size (first .before)) ∙ not-false _ (first .if1 .left)) (omega arith) (omega arith) (omega arith) (omega arith))
+add-result-2 : tie.Need-add-result-2
+add-result-2 c = search needs
+
+returns-3 : tie.Need-returns-3
+returns-3 c =
+    let e = c .before .before .before in
+    let s = e .before in
+    rw (c .before .before .get-u64 .ensures, c .before .get-u642 .ensures, c .get-u643 .ensures)
+    (queue-last (s .before .before .before .before .before .args .v .now) (omega arith) (sym (size s) ∙ not-false _ (e .if2 .left)))
 
 pub is-valid-queue-spec : {M : Type 1} → statement M
 is-valid-queue-spec =
     tie.close
     (tie.spec
-    get-u16-requires
-    is-power-of-two-requires
+    get-u32-requires
     returns
-    get-u16-requires-2
+    get-u16-requires
+    is-valid-size-requires
     returns-2
-    get-u16-requires-3
-    returns-3
     get-u64-requires
-    returns-4
     get-u64-requires-2
-    returns-5
+    add-result
     get-u64-requires-3
-    returns-6)
+    add-result-2
+    returns-3)
