@@ -46,7 +46,7 @@ extern "C" {
 #define GLINT_MEMORY_LIMIT UINT64_C(0x40000000)   /* memory has at most so many bytes */
 #define GLINT_TRANSFER_LIMIT 65536u               /* bytes of one transfer, and of a stream */
 #define GLINT_PART_HEADER 16u                     /* bytes of a part before its value */
-#define GLINT_SAVED_MAX 429u                      /* bytes that saving ever writes */
+#define GLINT_SAVED_MAX 445u                      /* bytes that saving ever writes: 41 to 429 for the card with 64 feature bits, 49 to 445 with 128 */
 
 /* ---- refusals */
 
@@ -160,6 +160,7 @@ typedef struct glint_state {
     glint_table table;
     glint_registers registers;
     uint8_t running; /* 1: the device runs; every other value: it does not */
+    uint8_t words;   /* which card it is, by the 64-bit words of its features: 1 or 2; every other value: not sound */
 } glint_state;
 
 /* ---- answers */
@@ -213,6 +214,7 @@ GLINT_ASSERT(sizeof(glint_state) == 2528);
 GLINT_ASSERT(offsetof(glint_state, table) == 8);
 GLINT_ASSERT(offsetof(glint_state, registers) == 2064);
 GLINT_ASSERT(offsetof(glint_state, running) == 2526);
+GLINT_ASSERT(offsetof(glint_state, words) == 2527);
 GLINT_ASSERT(sizeof(glint_outcome) == 24);
 GLINT_ASSERT(sizeof(glint_kept) == 2552);
 GLINT_ASSERT(sizeof(glint_found) == 40);
@@ -220,8 +222,12 @@ GLINT_ASSERT(sizeof(glint_part_step) == 56);
 
 /* ---- the library's functions */
 
-/* Fresh start: all marks 0, memory bytes untouched, the memory's length noted, no mapping, the device stopped and reset. */
+/*
+ * Fresh start: all marks 0, memory bytes untouched, the memory's length noted, no mapping, the device stopped and reset. The first is that
+ * of the card with 64 feature bits, the second of the card with 128.
+ */
 glint_kept glint_power_on(glint_state state, const uint8_t *memory, size_t memory_length, uint8_t *marks, size_t marks_length);
+glint_kept glint_power_on_128(glint_state state, const uint8_t *memory, size_t memory_length, uint8_t *marks, size_t marks_length);
 
 /* A request on a target by number. Reads the input fields of `buffer` and writes its output fields, no other byte. */
 glint_kept glint_request(glint_state state, const uint8_t *memory, size_t memory_length, const uint8_t *marks, size_t marks_length,
@@ -262,7 +268,7 @@ glint_outcome glint_read_register(glint_state state, uint64_t kind, uint64_t sel
  */
 glint_outcome glint_load_parts_into(glint_state *state, const uint8_t *stream, size_t stream_length);
 
-/* Saves the set registers of a state as a stream at the buffer's start; its length, 41 to 429, is the result. Refused: 17, 27. */
+/* Saves the set registers of a state as a stream at the buffer's start; its length is the result. Refused: 17, 27. */
 glint_outcome glint_save_parts_from(const glint_state *state, uint8_t *buffer, size_t buffer_length);
 
 /* The same with the state by value, as the other calls have it. */
@@ -364,8 +370,8 @@ GLINT_ASSERT(sizeof(glint_irq_info) == 16);
 /* ---- registers */
 
 /* Types of registers and of parts. */
-#define GLINT_OFFERED_FEATURES 0x100u /* 8 bytes; read only */
-#define GLINT_DRIVER_FEATURES 0x101u  /* 8 bytes */
+#define GLINT_OFFERED_FEATURES 0x100u /* 8 bytes, or 16 for the card with 128 feature bits; read only */
+#define GLINT_DRIVER_FEATURES 0x101u  /* as many */
 #define GLINT_COMMON_FIELD 0x102u     /* selectors 0, 8: 4 bytes; 16, 22: 2 bytes */
 #define GLINT_DEVICE_STATUS 0x103u    /* 1 byte */
 #define GLINT_QUEUE_CONFIG 0x104u     /* selectors 0 to 3: 32 bytes */
@@ -420,7 +426,7 @@ static inline glint_outcome glint_bench_keep(glint_bench *bench, const glint_kep
     return kept->outcome;
 }
 
-/* Fresh start on the bench's memory and marks. */
+/* Fresh start on the bench's memory and marks, of the card with 64 feature bits. */
 static inline glint_outcome glint_bench_power_on(glint_bench *bench)
 {
     if (glint_bench_is_null(bench))
@@ -430,15 +436,38 @@ static inline glint_outcome glint_bench_power_on(glint_bench *bench)
     return glint_bench_keep(bench, &kept);
 }
 
-/* Takes `length` bytes of memory and as many marks, and makes a fresh start. Where that is refused, so is every other call until one is not. */
-static inline glint_outcome glint_bench_init(glint_bench *bench, uint8_t *memory, uint8_t *marks, size_t length)
+/* The same of the card with 128. */
+static inline glint_outcome glint_bench_power_on_128(glint_bench *bench)
+{
+    if (glint_bench_is_null(bench))
+        return glint_null_refusal();
+    glint_kept kept = glint_power_on_128(bench->state, glint_bytes(bench->memory), bench->memory_length,
+                                         glint_bytes_mut(bench->marks), bench->marks_length);
+    return glint_bench_keep(bench, &kept);
+}
+
+/* Takes `length` bytes of memory and as many marks; before a fresh start every other call is refused. */
+static inline void glint_bench_lend(glint_bench *bench, uint8_t *memory, uint8_t *marks, size_t length)
 {
     memset(bench, 0, sizeof *bench);
     bench->memory = memory;
     bench->memory_length = length;
     bench->marks = marks;
     bench->marks_length = length;
+}
+
+/* The same, with a fresh start of the card with 64 feature bits. Where that is refused, so is every other call until one is not. */
+static inline glint_outcome glint_bench_init(glint_bench *bench, uint8_t *memory, uint8_t *marks, size_t length)
+{
+    glint_bench_lend(bench, memory, marks, length);
     return glint_bench_power_on(bench);
+}
+
+/* And with one of the card with 128. */
+static inline glint_outcome glint_bench_init_128(glint_bench *bench, uint8_t *memory, uint8_t *marks, size_t length)
+{
+    glint_bench_lend(bench, memory, marks, length);
+    return glint_bench_power_on_128(bench);
 }
 
 /* ---- requests */

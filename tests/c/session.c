@@ -665,6 +665,39 @@ static void flag_bytes(void)
     CHECK_REFUSED(glint_bench_start(&bench), GLINT_BAD_BENCH, 0);
 }
 
+// The second card: its features have 16 bytes, all else is as the first card's.
+static void second_card(void)
+{
+    fresh_bench();
+    CHECK(bench.state.words == 1);
+    uint8_t first[GLINT_SAVED_MAX];
+    CHECK_DONE(glint_bench_save_parts(&bench, first, sizeof first), 41);
+
+    CHECK_DONE(glint_bench_power_on_128(&bench), 0);
+    CHECK(bench.state.words == 2);
+    static const uint8_t offered[16] = {0, 0, 0, 0x30, 1, 0, 0, 0, 1};
+    CHECK_DONE(glint_bench_read_register(&bench, GLINT_OFFERED_FEATURES, 0, fill(&buffer, 16), 16), 16);
+    CHECK(memcmp(fenced_bytes(&buffer), offered, 16) == 0);
+    CHECK_DONE(glint_bench_set_register(&bench, GLINT_DRIVER_FEATURES, 0, offered, 16), 0);
+    CHECK_REFUSED(glint_bench_set_register(&bench, GLINT_DRIVER_FEATURES, 0, offered, 8), GLINT_VALUE, 0);
+    const uint8_t foreign[16] = {0, 0, 0, 0, 0, 0, 0, 0, 2};
+    CHECK_REFUSED(glint_bench_set_register(&bench, GLINT_DRIVER_FEATURES, 0, foreign, 16), GLINT_MISMATCH, 0);
+    CHECK_REFUSED(glint_bench_load_parts(&bench, first, 41), GLINT_VALUE, 0);
+    CHECK_DONE(glint_bench_reset(&bench), 0);
+    CHECK(bench.state.words == 2);
+    uint8_t second[GLINT_SAVED_MAX];
+    CHECK_DONE(glint_bench_save_parts(&bench, second, sizeof second), 49);
+    CHECK_DONE(glint_bench_load_parts(&bench, second, 49), 0);
+
+    bench.state.words = 3;
+    CHECK_REFUSED(glint_bench_stop(&bench), GLINT_BAD_BENCH, 0);
+    static glint_bench another;
+    uint8_t byte, mark;
+    CHECK_DONE(glint_bench_init_128(&another, &byte, &mark, 1), 0);
+    CHECK_REFUSED(glint_bench_load_parts(&another, first, 41), GLINT_VALUE, 0);
+    CHECK_DONE(glint_bench_load_parts(&another, second, 49), 0);
+}
+
 static void refusal_names(void)
 {
     CHECK(strcmp(glint_refusal_name(GLINT_BAD_BENCH), "BadBench") == 0);
@@ -688,7 +721,7 @@ int main(void)
         TEST(power_on),     TEST(bad_bench),     TEST(container),  TEST(iommu_info),  TEST(map_and_look_up), TEST(table_full),
         TEST(unmap_ranges), TEST(device_reads),  TEST(device_writes), TEST(host_loads), TEST(device_info),   TEST(region_info),
         TEST(irq_info),     TEST(registers),     TEST(save_and_load), TEST(steps),      TEST(no_memory),     TEST(refusal_names),
-        TEST(null_pointers), TEST(refused_info), TEST(flag_bytes),
+        TEST(null_pointers), TEST(refused_info), TEST(flag_bytes), TEST(second_card),
     };
     const unsigned count = sizeof tests / sizeof *tests;
     unsigned failed = 0;

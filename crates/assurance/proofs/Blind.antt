@@ -167,7 +167,7 @@ request-blind buf e = entry-by (RequestBlind buf e) absent listed requests all-r
 
 own-checks-blind : (c : Call) (buf : List ℕ) (e : Emulator) → ownChecks c (mask (input c) buf) (seen e) ≡ ownChecks c buf e
 unfolding ownChecks seen input
-own-checks-blind powerOn buf e = refl
+own-checks-blind (powerOn card) buf e = refl
 own-checks-blind (request target number) buf e = request-blind buf e target number .its-checks
 own-checks-blind (lookUp d) buf e = refl
 own-checks-blind (deviceRead d) buf e = simp length-mask
@@ -232,7 +232,7 @@ transfer-passed fault ms d n h = firstFault-all _ n (then-pass _ _ (then-pass _ 
 
 effect-blind : (c : Call) (buf : List ℕ) (e : Emulator) → ownChecks c buf e ≡ Pass → effect c (mask (input c) buf) (seen e) ≡ effect c buf e
 unfolding effect ownChecks seen input deviceReadChecks bytesFrom written mask
-effect-blind powerOn buf e ok = simp length-mask
+effect-blind (powerOn card) buf e ok = simp length-mask
 effect-blind (request target number) buf e ok = request-blind buf e target number .its-effect
 effect-blind (lookUp d) buf e ok = refl
 effect-blind (deviceRead d) buf e ok =

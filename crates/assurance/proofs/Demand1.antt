@@ -70,9 +70,9 @@ write-fault-listed Nowhere = search listing
 
 -- ---- registers and streams
 
-value-listed : (i : ℕ) (twice : Bool) (v : List ℕ) → Listed (valueChecks i twice v)
+value-listed : (w i : ℕ) (twice : Bool) (v : List ℕ) → Listed (valueChecks w i twice v)
 unfolding valueChecks contentChecks
-value-listed i twice v = search listing depth 10
+value-listed w i twice v = search listing depth 10
 
 on-listed : (v : Verdict) (part : Step) → Listed v → Listed (stepVerdict part) → Listed (stepVerdict (stepOn v part))
 unfolding stepOn stepVerdict
@@ -85,36 +85,36 @@ step-listed s p =
     let P : Step → Type 0 = λ x. Listed (stepVerdict x) in
     pick-either P _ _ _ (search listing) (pick-either P _ _ _ (search listing) (on-listed _ _ (search listing depth 10) (search listing)))
 
-part-listed : (twice : Bool) (kind flags selector : ℕ) (v : List ℕ) → Listed (partChecks twice kind flags selector v)
+part-listed : (w : ℕ) (twice : Bool) (kind flags selector : ℕ) (v : List ℕ) → Listed (partChecks w twice kind flags selector v)
 unfolding partChecks listedPartChecks
-part-listed twice kind flags selector v = search (listing, value-listed) depth 10
+part-listed w twice kind flags selector v = search (listing, value-listed) depth 10
 
 finish-listed : (seen : Seen) (p : ℕ) → Listed (verdict (finish seen p))
 unfolding finish
 finish-listed seen p = settle-listed _ _ (search listing)
 
-on-step-listed : (more : ℕ → Seen → Answer File) → ((p : ℕ) (seen : Seen) → Listed (verdict (more p seen)))
-    → (s : List ℕ) (p : ℕ) (seen : Seen) (x : Step) → Listed (stepVerdict x) → Listed (verdict (onStep more s p seen x))
+on-step-listed : (w : ℕ) (more : ℕ → Seen → Answer File) → ((p : ℕ) (seen : Seen) → Listed (verdict (more p seen)))
+    → (s : List ℕ) (p : ℕ) (seen : Seen) (x : Step) → Listed (stepVerdict x) → Listed (verdict (onStep w more s p seen x))
 unfolding onStep stepVerdict verdict
-on-step-listed more rest s p seen End h = finish-listed seen p
-on-step-listed more rest s p seen (Refused code place) h = h
-on-step-listed more rest s p seen (Part kind flags selector next) h =
-    onward-listed _ _ (settle-listed _ _ (at-listed _ p (part-listed _ kind flags selector _))) (rest next)
+on-step-listed w more rest s p seen End h = finish-listed seen p
+on-step-listed w more rest s p seen (Refused code place) h = h
+on-step-listed w more rest s p seen (Part kind flags selector next) h =
+    onward-listed _ _ (settle-listed _ _ (at-listed _ p (part-listed w _ kind flags selector _))) (rest next)
 
-load-from-listed : (fuel : ℕ) (s : List ℕ) (p : ℕ) (seen : Seen) → Listed (verdict (loadFrom fuel s p seen))
+load-from-listed : (w fuel : ℕ) (s : List ℕ) (p : ℕ) (seen : Seen) → Listed (verdict (loadFrom w fuel s p seen))
 unfolding loadFrom verdict
-load-from-listed zero s p seen = search listing
-load-from-listed (suc fuel) s p seen = on-step-listed (loadFrom fuel s) (load-from-listed fuel s) s p seen _ (step-listed s p)
+load-from-listed w zero s p seen = search listing
+load-from-listed w (suc fuel) s p seen = on-step-listed w (loadFrom w fuel s) (load-from-listed w fuel s) s p seen _ (step-listed s p)
 
-load-listed : (running : Bool) (s : List ℕ) → Listed (verdict (load running s))
+load-listed : (w : ℕ) (running : Bool) (s : List ℕ) → Listed (verdict (load w running s))
 unfolding load lengthCheck
-load-listed running s = onward-listed _ _ (settle-listed _ _ (search listing)) (load-from-listed _ s 0)
+load-listed w running s = onward-listed _ _ (settle-listed _ _ (search listing)) (load-from-listed w _ s 0)
 
 -- ---- every call
 
 own-checks-listed : (c : Call) (buf : List ℕ) (e : Emulator) → Listed (ownChecks c buf e)
 unfolding ownChecks translateChecks deviceReadChecks deviceWriteChecks transferChecks lengthCheck hostWriteChecks hostReadChecks unwrittenIn unwrittenAt invalidateChecks setChecks selectorChecks readChecks saveChecks
-own-checks-listed powerOn buf e = search listing
+own-checks-listed (powerOn card) buf e = search listing
 own-checks-listed (request target number) buf e = request-listed _ buf e
 own-checks-listed (lookUp d) buf e = search listing
 own-checks-listed (deviceRead d) buf e = search (listing, read-fault-listed)
@@ -124,7 +124,7 @@ own-checks-listed (hostRead a) buf e = search listing
 own-checks-listed (invalidate a n) buf e = search listing
 own-checks-listed (setRegister kind selector) buf e = search (listing, value-listed) depth 10
 own-checks-listed (readRegister kind selector) buf e = search listing depth 10
-own-checks-listed loadParts buf e = load-listed _ buf
+own-checks-listed loadParts buf e = load-listed _ _ buf
 own-checks-listed saveParts buf e = search listing
 own-checks-listed stop buf e = search listing
 own-checks-listed start buf e = search listing

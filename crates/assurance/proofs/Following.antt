@@ -30,6 +30,7 @@ use Rattle.memory.specs.Memory.{Memory, edited, byteAt, bytesFrom}
 use Rattle.memory.proofs.Marks.{initialized-below}
 use Rattle.dma.specs.Transfers.{readFault, writeFault, deviceReadChecks, deviceWriteChecks, location, gather}
 use Rattle.dma.proofs.Gather.{gather-length}
+use Rattle.registers.specs.declared.Card.{Card}
 use Rattle.emulator.specs.Machine.{Machine, Emulator, both, usable, lendable, sound, soundMappings, poweredOn, withMappings, withRegisters, withRunning}
 use Rattle.emulator.specs.Effect.{Result, value, Effect, Outcome, effectOf, outcomeOf, after, filled}
 use Rattle.emulator.specs.Requests.{Request, getApiVersion, checkExtension, getIommuInfo, mapDma, unmapDma, getInfo, getRegionInfo, getIrqInfo, resetDevice, Entry, identify, requestedMapping, requestedStart, requestedSize, listedChecks, sizeChecks, requestChecks, listedEffect, requestEffect}
@@ -106,7 +107,7 @@ module _ (l : Ledger) (e : Emulator) (buf : List ℕ) (h : Books l e) where
 books-after : (c : Call) (l : Ledger) (e : Emulator) (buf : List ℕ) → Books l e → usable (given c) e ≡ true → ownChecks c buf e ≡ Pass
     → Books (ledgerAfter c buf l) (after (effect c buf e) e)
 unfolding given ledgerAfter effect ownChecks after edited find Apart empty poweredOn withRegisters withRunning deviceWriteChecks
-books-after powerOn l e buf h good ok =
+books-after (powerOn card) l e buf h good ok =
     record {
       bytes = clears-holds (l .byte) (λ a. none) (memoryAddress 0) (length (e .memory .bytes)) (e .memory) (h .bytes)
           (λ k p q. absurd (q (omega arith) (omega (arith, initialized-below (e .memory .shadow) k p, h .bytes .level))));
@@ -160,7 +161,7 @@ filled-by held lent out n e f h = rw (sets-all lent out (f ∙ sym e)) (record {
 owed : (c : Call) (l : Ledger) (e : Emulator) (buf lent : List ℕ) → length lent ≡ length buf → Books l e → ownChecks c buf e ≡ Pass
     → Owed l c (length buf) (filled (effect c buf e .pieces) lent)
 unfolding Owed effect ownChecks filled deviceReadChecks bytesFrom byteAt
-owed powerOn l e buf lent p h ok = tt
+owed (powerOn card) l e buf lent p h ok = tt
 owed (request target number) l e buf lent p h ok = tt
 owed (lookUp d) l e buf lent p h ok = tt
 owed (deviceRead d) l e buf lent p h ok =
@@ -228,23 +229,23 @@ follows l e h (q ∷ qs) w =
 unfoldable ownLedger : Memory → Ledger
 ownLedger m = record { mappings = []; byte = λ a. some (byteAt m a) }
 
-fresh-books : (e : Emulator) → usable (given powerOn) e ≡ true → Books empty (after (effect powerOn [] e) e)
+fresh-books : (card : Card) (e : Emulator) → usable (given (powerOn card)) e ≡ true → Books empty (after (effect (powerOn card) [] e) e)
 unfolding usable lendable shadowLength given effect ownLedger find Apart ledgerAfter after poweredOn ownChecks
-fresh-books e good =
+fresh-books card e good =
     let level : length (e .memory .bytes) ≡ length (e .memory .shadow) = sym (eqb-true _ _ (and-true _ _ good .0)) in
-    let bare : Emulator = record { memory = e .memory; machine = poweredOn 0 } in
+    let bare : Emulator = record { memory = e .memory; machine = poweredOn card 0 } in
     let own : Books (ownLedger (e .memory)) bare = record { bytes = record { level = level; bytes = λ k p. refl }; maps = λ d. refl; apart = tt } in
-    let r = books-after powerOn (ownLedger (e .memory)) bare [] own good refl in
+    let r = books-after (powerOn card) (ownLedger (e .memory)) bare [] own good refl in
     record { bytes = r .bytes; maps = r .maps; apart = r .apart }
 
 -- a refused fresh start does not answer with a result
-fresh-by : (e : Emulator) (v : Verdict) → checks powerOn [] e ≡ v → settle v (value 0) ≡ done (value 0)
-    → Books empty (after (effectOf v (effect powerOn [] e) (e .machine)) e)
+fresh-by : (card : Card) (e : Emulator) (v : Verdict) → checks (powerOn card) [] e ≡ v → settle v (value 0) ≡ done (value 0)
+    → Books empty (after (effectOf v (effect (powerOn card) [] e) (e .machine)) e)
 unfolding checks settle effectOf
-fresh-by e Pass p h = fresh-books e (unless-pass _ _ (then-pass _ _ p .0))
-fresh-by e (Fail code place) p h = absurd (let z : _≡_ {A = ℕ} 0 1 = cc in omega arith)
+fresh-by card e Pass p h = fresh-books card e (unless-pass _ _ (then-pass _ _ p .0))
+fresh-by card e (Fail code place) p h = absurd (let z : _≡_ {A = ℕ} 0 1 = cc in omega arith)
 
-pub following : (e : Emulator) → outcome powerOn [] e .answer ≡ done (value 0) → (qs : List Ask) (w : ℕ → Others)
-    → Follows empty qs (run (after (outcome powerOn [] e .effect) e) qs w)
+pub following : (card : Card) (e : Emulator) → outcome (powerOn card) [] e .answer ≡ done (value 0) → (qs : List Ask) (w : ℕ → Others)
+    → Follows empty qs (run (after (outcome (powerOn card) [] e .effect) e) qs w)
 unfolding outcome outcomeOf effect
-following e ok qs w = follows empty _ (fresh-by e _ refl ok) qs w
+following card e ok qs w = follows empty _ (fresh-by card e _ refl ok) qs w

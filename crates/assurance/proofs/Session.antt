@@ -4,6 +4,7 @@ use mathlib.Core.Path.{_≡_, refl, sym, _∙_, ap, ap₂, subst}
 use mathlib.Core.List.{List, [], _∷_, map}
 use Rattle.answer.specs.Answer.{Answer, done}
 use Rattle.memory.specs.Memory.{Memory}
+use Rattle.registers.specs.declared.Card.{Card}
 use Rattle.emulator.specs.Machine.{Emulator, emulatorOf}
 use Rattle.emulator.specs.Effect.{Result, value, Outcome, after, filled}
 use Rattle.emulator.specs.Calls.{powerOn, given, ownChecks, checks, effect, outcome}
@@ -73,12 +74,12 @@ agree s t m n same qs w v xs ys h k =
     rw (is-run s m qs w xs h, is-run t n qs v ys k) (all-agree _ _ qs w v (agreement _ _ same qs w v))
 
 -- a fresh start looks at no buffer
-owed : (s : State) (m : Memory) (buf : List ℕ) (qs : List Ask) (w : ℕ → Others) (x : Shown) (xs : List Shown)
-    → Session s m (record { call = powerOn; buffer = buf } ∷ qs) w (x ∷ xs) → x .answer ≡ done (value 0) → AllOwed empty qs xs
+owed : (card : Card) (s : State) (m : Memory) (buf : List ℕ) (qs : List Ask) (w : ℕ → Others) (x : Shown) (xs : List Shown)
+    → Session s m (record { call = powerOn card; buffer = buf } ∷ qs) w (x ∷ xs) → x .answer ≡ done (value 0) → AllOwed empty qs xs
 unfolding outcome checks ownChecks effect given
-owed s m buf qs w x xs (more {s′} {m′} h rest) ok =
+owed card s m buf qs w x xs (more {s′} {m′} h rest) ok =
     let e : Emulator = emulatorOf s (disturbed (w 0) (emulatorOf s m) .memory) in
-    let f : Follows empty qs (run (after (outcome powerOn [] e .effect) e) qs (λ n. w (suc n))) = following e (sym (h .answer) ∙ ok) qs (λ n. w (suc n)) in
+    let f : Follows empty qs (run (after (outcome (powerOn card) [] e .effect) e) qs (λ n. w (suc n))) = following card e (sym (h .answer) ∙ ok) qs (λ n. w (suc n)) in
     rw (is-run _ _ qs (λ n. w (suc n)) xs rest, meets-after h) (all-owed empty _ qs (λ n. w (suc n)) f)
 
 pub sessions : Sessions

@@ -18,9 +18,9 @@ pub record Demands : Type 0 where
   -- Demand 1. Whatever a call is given, it answers: success, or a refusal by one of 27 numbers, which changes nothing.
   pub demand1 : Demand1
   -- Demand 2. Each call does what its rule says: that is its contract, above. What is asked of calls together, and of worked values:
-  -- the stream that is saved of a sound register file loads to the same file;
+  -- the stream that is saved of a sound register file loads to the same file, on either card;
   pub roundTrip : RoundTrip
-  -- what an accepted save leaves in its buffer, any sound, stopped device loads, and has the saved registers then;
+  -- what an accepted save leaves in its buffer, any sound, stopped device that is the same card loads, and has the saved registers then;
   pub saveLoad : SaveLoad
   -- the worked values are right, each an answer and a whole buffer.
   pub starred : Starred

@@ -10,6 +10,7 @@ use Rattle.answer.specs.Answer.{Answer, done, refused}
 use Rattle.address.specs.Address.{memoryAddress}
 use Rattle.wire.specs.Field.{bytesOf}
 use Rattle.registers.specs.File.{blank}
+use Rattle.registers.specs.declared.Card.the-variants.{Features64}
 use Rattle.emulator.specs.Machine.{Machine, Emulator}
 use Rattle.emulator.specs.Effect.{Result, value}
 use Rattle.emulator.specs.Requests.{device}
@@ -22,7 +23,7 @@ unfoldable pub filledWith : ℕ → Emulator
 filledWith x =
     record {
       memory = record { bytes = replicate 8 x; shadow = replicate 8 1 };
-      machine = record { memoryLength = 8; count = 0; mappings = []; registers = blank; running = true };
+      machine = record { memoryLength = 8; count = 0; mappings = []; registers = blank; running = true; words = 1 };
     }
 
 -- what others write, before each call, at unwritten address a and at stale offset i
@@ -34,7 +35,7 @@ noise seed n = record { memory = λ a. seed + n; buffer = λ i. seed + i }
 unfoldable pub calls : List Ask
 calls =
     (hostRead (memoryAddress 0) lent 0 ∷ [])
-    ∷ (powerOn lent [])
+    ∷ (powerOn Features64 lent [])
     ∷ (hostWrite (memoryAddress 2) lent 11 ∷ 12 ∷ [])
     ∷ (hostRead (memoryAddress 2) lent 0 ∷ 0 ∷ [])
     ∷ (hostRead (memoryAddress 2) lent 0 ∷ 0 ∷ 0 ∷ [])

@@ -55,8 +55,8 @@ unfoldable pub run : Emulator → List Ask → (ℕ → Others) → List Event
 run e [] w = []
 run e (q ∷ qs) w = let v = turn (w 0) q e in v ∷ run (v .left) qs (λ n. w (suc n))
 
--- Two emulators that agree on all but unwritten memory: the kept states mean the same, marks are equal, and memories have one length
--- and agree wherever a byte is marked written. Neither need be sound.
+-- Two emulators that agree on all but unwritten memory: the kept states mean the same, so that both are the same card, marks are equal, and
+-- memories have one length and agree wherever a byte is marked written. Neither need be sound.
 pub record Same (e f : Emulator) : Type 0 where
   pub machine : e .machine ≡ f .machine
   pub shadow : e .memory .shadow ≡ f .memory .shadow

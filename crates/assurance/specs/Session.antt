@@ -7,6 +7,7 @@ use mathlib.Core.List.{List, [], _∷_, map}
 use lib.ListN.{length}
 use Rattle.answer.specs.Answer.{Answer, done}
 use Rattle.memory.specs.Memory.{Memory}
+use Rattle.registers.specs.declared.Card.{Card}
 use Rattle.emulator.specs.Machine.{Emulator, emulatorOf}
 use Rattle.emulator.specs.Effect.{Result, value, Piece, filled}
 use Rattle.emulator.specs.Calls.{powerOn}
@@ -68,5 +69,5 @@ pub record Sessions : Type 0 where
   pub agreement : (s t : State) (m n : Memory) → Same (emulatorOf s m) (emulatorOf t n) → (qs : List Ask) (w v : ℕ → Others) (xs ys : List Shown)
       → Session s m qs w xs → Session t n qs v ys → AllAgree qs w v xs ys
   -- in a session that begins with an accepted fresh start, and with a ledger empty then, every accepted read shows what the ledger holds.
-  pub ledger : (s : State) (m : Memory) (buf : List ℕ) (qs : List Ask) (w : ℕ → Others) (x : Shown) (xs : List Shown)
-      → Session s m (record { call = powerOn; buffer = buf } ∷ qs) w (x ∷ xs) → x .answer ≡ done (value 0) → AllOwed empty qs xs
+  pub ledger : (card : Card) (s : State) (m : Memory) (buf : List ℕ) (qs : List Ask) (w : ℕ → Others) (x : Shown) (xs : List Shown)
+      → Session s m (record { call = powerOn card; buffer = buf } ∷ qs) w (x ∷ xs) → x .answer ≡ done (value 0) → AllOwed empty qs xs

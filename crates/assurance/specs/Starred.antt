@@ -1,14 +1,16 @@
--- The worked values of rules 7.1 to 7.12, as one table under one statement (rule 8.5).
+-- The worked values of rules 7.1 to 7.12 and 7.19 to 7.22, as one table under one statement (rule 8.5).
 use Prim.Native.Nat.{ℕ, _+_, _-_, _^_}
 use mathlib.Core.Path.{_≡_}
 use mathlib.Core.Bool.{Bool}
 use mathlib.Core.List.{List, [], _∷_, _++_}
 use lib.ListN.{length, replicate}
-use Rattle.answer.specs.Codes.{Empty, Range, Cuts, Unwritten, Twice, Value, Missing}
+use Rattle.answer.specs.Codes.{Empty, Range, Cuts, Unwritten, Twice, Value, Mismatch, Missing}
 use Rattle.answer.specs.Answer.{Answer, done, refused}
 use Rattle.address.specs.Address.{page, deviceLimit, deviceAddress, memoryAddress}
 use Rattle.wire.specs.Field.{bytesOf}
-use Rattle.registers.specs.Rows.{QueueConfig}
+use Rattle.registers.specs.Rows.{DriverFeatures, QueueConfig}
+use Rattle.registers.specs.declared.Card.{Card}
+use Rattle.registers.specs.declared.Card.the-variants.{Features64, Features128}
 use Rattle.emulator.specs.Machine.{Emulator, poweredOn}
 use Rattle.emulator.specs.Effect.{Result, value, Outcome, after, filled}
 use Rattle.emulator.specs.Requests.{container, device}
@@ -23,19 +25,22 @@ unfoldable pub behind : List Ask → Emulator → Emulator
 behind [] e = e
 behind (q ∷ qs) e = behind qs (after (outcomeTo q e .effect) e)
 
--- A case: on a fresh emulator of two pages, after the calls `before`, the call `ask` answers `answer` and leaves its buffer as `leaves`.
+-- A case: on a fresh emulator of a card and two pages, after the calls `before`, the call `ask` answers `answer` and leaves its buffer as
+-- `leaves`.
 pub record Case : Type 0 where
+  pub card : Card
   pub before : List Ask
   pub ask : Ask
   pub answer : Answer Result
   pub leaves : List ℕ
 
 -- as power on leaves it: nothing is written, whatever bytes stand there
-abbrev pub fresh : Emulator
-fresh = record { memory = record { bytes = replicate (page + page) 0xA5; shadow = replicate (page + page) 0 }; machine = poweredOn (page + page) }
+abbrev pub fresh : Card → Emulator
+fresh card =
+    record { memory = record { bytes = replicate (page + page) 0xA5; shadow = replicate (page + page) 0 }; machine = poweredOn card (page + page) }
 
 unfoldable pub outcomeIn : Case → Outcome
-outcomeIn c = outcomeTo (c .ask) (behind (c .before) fresh)
+outcomeIn c = outcomeTo (c .ask) (behind (c .before) (fresh (c .card)))
 
 pub record Right (c : Case) : Type 0 where
   pub answer : outcomeIn c .answer ≡ c .answer
@@ -78,6 +83,12 @@ unfoldable pub offeredPart : List ℕ
 offeredPart =
     0x00 ∷ 0x01 ∷ 0x01 ∷ 0x00 ∷ replicate 8 0x00 ++ 0x08 ∷ 0x00 ∷ 0x00 ∷ 0x00 ∷ 0x00 ∷ 0x00 ∷ 0x00 ∷ 0x30 ∷ 0x01 ∷ 0x00 ∷ 0x00 ∷ 0x00 ∷ []
 
+-- that of the second card
+unfoldable pub offeredPart128 : List ℕ
+offeredPart128 =
+    0x00 ∷ 0x01 ∷ 0x01 ∷ 0x00 ∷ replicate 8 0x00 ++ 0x10 ∷ 0x00 ∷ 0x00 ∷ 0x00 ∷ 0x00 ∷ 0x00 ∷ 0x00 ∷ 0x30 ∷ 0x01 ∷ 0x00 ∷ 0x00 ∷ 0x00
+    ∷ 0x01 ∷ replicate 7 0x00
+
 -- what request 108 leaves for region 7
 unfoldable pub regionSeven : List ℕ
 regionSeven =
@@ -91,20 +102,25 @@ abbrev pub gives : ℕ → Answer Result
 gives n = done (value n)
 
 -- a case that leaves its buffer as it was
+abbrev pub answersOn : Card → List Ask → Ask → Answer Result → Case
+answersOn card before q a = record { card = card; before = before; ask = q; answer = a; leaves = q .buffer }
+
+-- one on the first card
 abbrev pub answers : List Ask → Ask → Answer Result → Case
-answers before q a = record { before = before; ask = q; answer = a; leaves = q .buffer }
+answers = answersOn Features64
 
 unfoldable pub cases : List Case
 cases =
     -- rule 7.1: region 7, whatever its output fields held
     record {
+      card = Features64;
       before = [];
       ask = request device 108 lent bytesOf 4 32 ++ stale 4 ++ bytesOf 4 7 ++ stale 20;
       answer = gives 0;
       leaves = regionSeven;
     }
     -- rule 7.2: a reset device saved
-    ∷ record { before = []; ask = saveParts lent stale 43; answer = gives 41; leaves = offeredPart ++ statusPart ++ stale 2 }
+    ∷ record { card = Features64; before = []; ask = saveParts lent stale 43; answer = gives 41; leaves = offeredPart ++ statusPart ++ stale 2 }
     -- rule 7.3: no parts
     ∷ answers [] (loadParts lent []) (refused Missing 0)
     -- rule 7.4: status alone
@@ -118,15 +134,24 @@ cases =
     -- rule 7.8: a mapping cut
     ∷ answers twoMappings (unmapAt 4096 8192) (refused Cuts 0)
     -- rule 7.9: both removed, and the sum of their sizes in the size field
-    ∷ record { before = twoMappings; ask = unmapAt 0 12288; answer = gives 0; leaves = unmapBuffer 0 12288 }
+    ∷ record { card = Features64; before = twoMappings; ask = unmapAt 0 12288; answer = gives 0; leaves = unmapBuffer 0 12288 }
     -- rule 7.10: empty before unaligned
     ∷ answers [] (mapAt 1 0) (refused Empty 0)
     -- rule 7.11: a queue of size 3
     ∷ answers [] (setRegister QueueConfig 0 lent bytesOf 2 3 ++ replicate 30 0) (refused Value 0)
     -- rule 7.12: the second of two bytes is not written
     ∷ answers (mapAt 0 4096 ∷ (hostWrite (memoryAddress 0) lent 0x5A ∷ []) ∷ []) (deviceRead (deviceAddress 0) lent stale 2) (refused Unwritten 1)
+    -- rule 7.19: a reset device of the second card saved
+    ∷ record { card = Features128; before = []; ask = saveParts lent stale 51; answer = gives 49; leaves = offeredPart128 ++ statusPart ++ stale 2 }
+    -- rule 7.20: the other card's offered features
+    ∷ answers [] (loadParts lent statusPart ++ offeredPart128) (refused Value 17)
+    ∷ answersOn Features128 [] (loadParts lent statusPart ++ offeredPart) (refused Value 17)
+    -- rule 7.21: bit 0 of the second word
+    ∷ answersOn Features128 [] (setRegister DriverFeatures 0 lent bytesOf 8 0 ++ bytesOf 8 1) (gives 0)
+    -- rule 7.22: bit 1 of it
+    ∷ answersOn Features128 [] (setRegister DriverFeatures 0 lent bytesOf 8 0 ++ bytesOf 8 2) (refused Mismatch 0)
     ∷ []
 
--- The statement: all twelve are right. proofs/Starred.antt has its term.
+-- The statement: all of them are right. proofs/Starred.antt has its term.
 abbrev pub Starred : Type 0
 Starred = AllRight cases

@@ -8,11 +8,13 @@ use emulator::Location;
 use emulator::Reply;
 use emulator::State;
 use parts::Step;
+use registers::Card;
 use registers::Registers;
 ghost use mathlib.Core.Path.{_≡_};
 ghost use mathlib.Core.List.{List, []};
 ghost use Rattle.address.specs.Address.{deviceAddress, memoryAddress};
 ghost use Rattle.memory.specs.Memory.{Memory};
+ghost use Rattle.registers.specs.declared.Card.the-variants.{Features64, Features128};
 ghost use Rattle.emulator.specs.Calls.{powerOn, request, lookUp, deviceRead, deviceWrite, hostWrite, hostRead, invalidate, setRegister, readRegister, loadParts, saveParts, stop, start};
 ghost use Rattle.emulator.specs.Contract.{lentMemory, leftMemory, remarkedMemory, told, toldLocation};
 ghost use Rattle.capi.specs.Structs.{success as succeeded, refusal as refused, answerStruct, foundStruct, noPart, keptBy};
@@ -121,12 +123,26 @@ fn with_state(r: Reply) -> Kept
     Kept { outcome, state }
 }
 
-// Fresh start.
+fn power_on(state: State, card: Card, bytes: &[u8], shadow: &mut [u8]) -> Kept
+    ensures { λ r. ⌜ Tells (powerOn card) [] state (lentMemory bytes shadow) (r .outcome) [] (remarkedMemory bytes shadow) (r .state) ⌝ }
+{
+    with_state(emulator::power_on(state, card, bytes, shadow))
+}
+
+// Fresh start of the first card.
 #[no_mangle]
 pub extern "C" fn glint_power_on(state: State, bytes: &[u8], shadow: &mut [u8]) -> Kept
-    ensures { λ r. ⌜ Tells powerOn [] state (lentMemory bytes shadow) (r .outcome) [] (remarkedMemory bytes shadow) (r .state) ⌝ }
+    ensures { λ r. ⌜ Tells (powerOn Features64) [] state (lentMemory bytes shadow) (r .outcome) [] (remarkedMemory bytes shadow) (r .state) ⌝ }
 {
-    with_state(emulator::power_on(state, bytes, shadow))
+    power_on(state, Card::Features64, bytes, shadow)
+}
+
+// Fresh start of the second card, which has 128 feature bits.
+#[no_mangle]
+pub extern "C" fn glint_power_on_128(state: State, bytes: &[u8], shadow: &mut [u8]) -> Kept
+    ensures { λ r. ⌜ Tells (powerOn Features128) [] state (lentMemory bytes shadow) (r .outcome) [] (remarkedMemory bytes shadow) (r .state) ⌝ }
+{
+    power_on(state, Card::Features128, bytes, shadow)
 }
 
 // A request, by target (0 the container, 1 the device) and number.

@@ -11,7 +11,9 @@ use Rattle.address.specs.Address.{memoryAddress}
 use Rattle.iommu.specs.Table.{holding}
 use Rattle.memory.specs.Shadow.{shadowLength}
 use Rattle.memory.specs.Memory.{Memory, edited, clears}
+use Rattle.registers.specs.Cards.{wordsOf}
 use Rattle.registers.specs.File.{reset, slotsOf}
+use Rattle.registers.specs.declared.Card.{Card}
 use Rattle.registers.specs.declared.Register.{Register}
 use Rattle.registers.specs.declared.Registers.{Registers}
 use Rattle.emulator.specs.Machine.{lendable, usable, emulatorOf, poweredOn}
@@ -21,13 +23,13 @@ use Rattle.emulator.specs.Contract.{writes, stateWith, Meets}
 use Rattle.emulator.specs.declared.State.{State}
 use Rattle.emulator.proofs.Meets.{accepted}
 
-pub power-done : (s : State) (m m′ : Memory) (r : Registers) → lendable m ≡ true → r .slots ≡ slotsOf reset
+pub power-done : (card : Card) (s : State) (m m′ : Memory) (r : Registers) (w : ℕ) → w ≡ wordsOf card → lendable m ≡ true → r .slots ≡ slotsOf reset
     → m′ ≡ edited (clears (memoryAddress 0) (length (m .shadow))) m
-    → Meets powerOn [] s m (done (value 0)) [] m′
-    (record { «memory_length» = length (m .bytes); table = record { entries = s .table .entries; count = 0 }; registers = r; running = 0 })
+    → Meets (powerOn card) [] s m (done (value 0)) [] m′
+    (record { «memory_length» = length (m .bytes); table = record { entries = s .table .entries; count = 0 }; registers = r; running = 0; words = w })
 unfolding given ownChecks effect usable emulatorOf writes stateWith filled holding poweredOn lendable shadowLength
-power-done s m m′ r good e f =
+power-done card s m m′ r w d good e f =
     let level : length (m .shadow) ≡ length (m .bytes) = eqb-true _ _ (and-true _ _ good .0) in
-    accepted powerOn [] s m [] m′ _ good refl refl
+    rw d (accepted (powerOn card) [] s m [] m′ _ good refl refl
     (f ∙ ap (λ (n : ℕ). edited (clears (memoryAddress 0) n) m) level)
-    (ap (λ (l : List Register). record { «memory_length» = length (m .bytes); table = record { entries = s .table .entries; count = 0 }; registers = record { slots = l }; running = 0 }) e)
+    (ap (λ (l : List Register). record { «memory_length» = length (m .bytes); table = record { entries = s .table .entries; count = 0 }; registers = record { slots = l }; running = 0; words = wordsOf card }) e))

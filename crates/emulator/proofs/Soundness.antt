@@ -12,40 +12,59 @@ use Rattle.iommu.specs.Table.{capacity, soundTable, inUse, Sound}
 use Rattle.iommu.proofs.Soundness.{sound-table}
 use Rattle.memory.specs.Shadow.{shadowLength}
 use Rattle.memory.specs.Memory.{Memory}
+use Rattle.registers.specs.Cards.{isCard, wordRoom}
 use Rattle.registers.specs.File.{soundFile, fileOf}
-use Rattle.emulator.specs.Machine.{machineOf, emulatorOf, soundMappings, soundLength, sound, lendable, asNoted, both, usable}
+use Rattle.registers.proofs.Cards.{card-small}
+use Rattle.emulator.specs.Machine.{machineOf, emulatorOf, soundMappings, soundLength, soundCard, soundRegisters, sound, lendable, asNoted, both, usable}
 use Rattle.emulator.specs.declared.State.{State}
 
 -- ---- the kept state
 
+-- the first of three tests: the card's, which the registers are judged by
+pub first-holds : (a b c : Bool) → (a and b and c) ≡ true → a ≡ true
+first-holds a b c h = and-true _ _ (and-true _ _ h .0) .0
+
 module _ (s : State) where
-  -- the tests of the noted length and of the mappings, as the code makes them
+  -- the tests of card, noted length and mappings, as the code makes them
   abbrev pub mappingsSound : Bool
-  mappingsSound = leb (s .«memory_length») memoryLimit and (leb (s .table .count) capacity and soundTable (s .«memory_length») (inUse (s .table)))
+  mappingsSound =
+      isCard (s .words) and leb (s .«memory_length») memoryLimit and (leb (s .table .count) capacity and soundTable (s .«memory_length») (inUse (s .table)))
+
+  -- that of the registers, likewise
+  abbrev pub registersSound : Bool
+  registersSound = soundFile (s .words) (fileOf (s .words) (s .registers))
 
   pub sound-not : mappingsSound ≡ false → sound (machineOf s) ≡ false
-  unfolding sound soundLength soundMappings machineOf
+  unfolding sound soundCard soundLength soundMappings machineOf
   sound-not h = and-false _ _ h
 
-  pub sound-rest : mappingsSound ≡ true → sound (machineOf s) ≡ soundFile (fileOf (s .registers))
-  unfolding sound soundLength soundMappings machineOf
+  pub sound-rest : mappingsSound ≡ true → sound (machineOf s) ≡ registersSound
+  unfolding sound soundCard soundLength soundMappings soundRegisters machineOf
   sound-rest h = sym (and-second h refl)
 
-  -- what is known where the code has asked for both: p is what it found of length and mappings, and q of the registers
-  module _ {p q : Bool} (mappings : p ≡ mappingsSound) (file : q ≡ soundFile (fileOf (s .registers))) where
+  -- what is known where the code has asked for both: p is what it found of card, length and mappings, and q of the registers
+  module _ {p q : Bool} (mappings : p ≡ mappingsSound) (file : q ≡ registersSound) where
     pub sound-both : not p ≡ false → not q ≡ false → sound (machineOf s) ≡ true
     sound-both h g = sound-rest (found-true mappings h) ∙ found-true file g
 
     pub sound-second-not : not p ≡ false → not q ≡ true → sound (machineOf s) ≡ false
     sound-second-not h g = sound-rest (found-true mappings h) ∙ found-false file g
 
-  -- what functions below may ask of the table
+  -- what functions below may ask of the card
+  pub sound-card : sound (machineOf s) ≡ true → isCard (s .words) ≡ true
+  unfolding sound soundCard soundLength soundMappings machineOf
+  sound-card h = first-holds _ _ _ (and-true _ _ h .0)
+
+  pub sound-small : sound (machineOf s) ≡ true → s .words ≤ wordRoom
+  sound-small h = card-small (s .words) (sound-card h)
+
+  -- what they may ask of the table
   pub sound-ready : sound (machineOf s) ≡ true → Sound (s .table) × (s .«memory_length» ≤ memoryLimit)
-  unfolding sound soundLength soundMappings machineOf
+  unfolding sound soundCard soundLength soundMappings machineOf
   sound-ready h =
-      let r = and-true _ _ (and-true _ _ h .0) in
-      let few = leb-true _ _ (r .0) in
-      (sound-table (s .table) (s .«memory_length») (r .1) few, few)
+      let b = and-true _ _ (and-true _ _ h .0) in
+      let few = leb-true _ _ (and-true _ _ (b .0) .1) in
+      (sound-table (s .table) (s .«memory_length») (b .1) few, few)
 
 -- ---- memory, marks and state
 
@@ -72,7 +91,7 @@ module _ (s : State) (m : Memory) where
     pub mappings : soundTable (length (m .bytes)) (inUse (s .table)) ≡ true
 
   pub ready : usable both (emulatorOf s m) ≡ true → Ready
-  unfolding usable emulatorOf asNoted lendable shadowLength machineOf sound soundLength soundMappings
+  unfolding usable emulatorOf asNoted lendable shadowLength machineOf sound soundCard soundLength soundMappings
   ready h =
       let r = and-true _ _ h in
       let q = and-true _ _ (r .0) in

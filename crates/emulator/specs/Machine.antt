@@ -10,17 +10,21 @@ use Rattle.iommu.specs.Table.{capacity, soundTable, inUse}
 use Rattle.iommu.specs.declared.Mapping.{Mapping}
 use Rattle.memory.specs.Shadow.{shadowLength}
 use Rattle.memory.specs.Memory.{Memory}
+use Rattle.registers.specs.Cards.{wordsOf, isCard}
 use Rattle.registers.specs.File.{File, reset, soundFile, fileOf}
+use Rattle.registers.specs.declared.Card.{Card}
 use Rattle.emulator.specs.declared.State.{State}
 
 -- What the kept state means: no entry past the count and no value of an unset register (rule 1.13). `mappings` are the entries in use,
--- which are `count` where the state is sound; `memoryLength` is the noted length.
+-- which are `count` where the state is sound; `memoryLength` is the noted length, and `words` is how many words the card has of features
+-- (rule 1.15).
 pub record Machine : Type 0 where
   pub memoryLength : ℕ
   pub count : ℕ
   pub mappings : List Mapping
   pub registers : File
   pub running : Bool
+  pub words : ℕ
 
 -- memory with its marks, and the kept state
 pub record Emulator : Type 0 where
@@ -34,8 +38,9 @@ machineOf s =
       memoryLength = s .«memory_length»;
       count = s .table .count;
       mappings = inUse (s .table);
-      registers = fileOf (s .registers);
+      registers = fileOf (s .words) (s .registers);
       running = flagged (s .running);
+      words = s .words;
     }
 
 -- the emulator that lent memory makes with the code's state
@@ -43,6 +48,10 @@ unfoldable pub emulatorOf : State → Memory → Emulator
 emulatorOf s m = record { memory = m; machine = machineOf s }
 
 -- ---- soundness, in named pieces
+
+-- rule 1.15: there is a card with that many words of features
+unfoldable pub soundCard : Machine → Bool
+soundCard k = isCard (k .words)
 
 -- rule 1.12: at most 64 mappings, in order and apart, each of them sound with the noted length
 unfoldable pub soundMappings : Machine → Bool
@@ -52,9 +61,13 @@ soundMappings k = leb (k .count) capacity and soundTable (k .memoryLength) (k .m
 unfoldable pub soundLength : Machine → Bool
 soundLength k = leb (k .memoryLength) memoryLimit
 
+-- rule 1.12: the registers, by the card's sizes and features
+unfoldable pub soundRegisters : Machine → Bool
+soundRegisters k = soundFile (k .words) (k .registers)
+
 -- rule 1.12, whole
 unfoldable pub sound : Machine → Bool
-sound k = soundLength k and soundMappings k and soundFile (k .registers)
+sound k = soundCard k and soundLength k and soundMappings k and soundRegisters k
 
 -- ---- refusal 1, on what a call is given
 
@@ -78,18 +91,18 @@ usable both e = lendable (e .memory) and asNoted e and sound (e .machine)
 
 -- ---- states that calls leave
 
--- rule 1.10: the state that power on leaves, of which nothing comes from the old one
-unfoldable pub poweredOn : ℕ → Machine
-poweredOn n = record { memoryLength = n; count = 0; mappings = []; registers = reset; running = false }
+-- rule 1.10: the state that power on of a card leaves with memory of length `n`, of which nothing comes from the old one
+unfoldable pub poweredOn : Card → ℕ → Machine
+poweredOn card n = record { memoryLength = n; count = 0; mappings = []; registers = reset; running = false; words = wordsOf card }
 
 unfoldable pub withMappings : List Mapping → Machine → Machine
 withMappings ms k =
-    record { memoryLength = k .memoryLength; count = length ms; mappings = ms; registers = k .registers; running = k .running }
+    record { memoryLength = k .memoryLength; count = length ms; mappings = ms; registers = k .registers; running = k .running; words = k .words }
 
 unfoldable pub withRegisters : File → Machine → Machine
 withRegisters file k =
-    record { memoryLength = k .memoryLength; count = k .count; mappings = k .mappings; registers = file; running = k .running }
+    record { memoryLength = k .memoryLength; count = k .count; mappings = k .mappings; registers = file; running = k .running; words = k .words }
 
 unfoldable pub withRunning : Bool → Machine → Machine
 withRunning running k =
-    record { memoryLength = k .memoryLength; count = k .count; mappings = k .mappings; registers = k .registers; running = running }
+    record { memoryLength = k .memoryLength; count = k .count; mappings = k .mappings; registers = k .registers; running = running; words = k .words }

@@ -7,6 +7,7 @@ use answer::Verdict;
 use iommu::Table;
 use iommu::Translation;
 use parts::Loaded;
+use registers::Card;
 use registers::Registers;
 ghost use mathlib.Core.Path.{_≡_};
 ghost use mathlib.Core.List.{List, []};
@@ -15,21 +16,23 @@ ghost use lib.Dec.{leb};
 ghost use Rattle.answer.specs.Tests.{_and_, flagByte};
 ghost use Rattle.address.specs.Address.{memoryLimit};
 ghost use Rattle.iommu.specs.Table.{capacity, soundTable, inUse};
+ghost use Rattle.registers.specs.Cards.{isCard};
 ghost use Rattle.parts.specs.Load.{loadedOf};
 ghost use Rattle.emulator.specs.Machine.{machineOf, emulatorOf, both, sound as soundMachine, lendable as canLend, usable as canUse};
 ghost use Rattle.emulator.specs.Calls.{powerOn, lookUp, deviceRead, deviceWrite, hostWrite, hostRead, setRegister, readRegister, loadParts, saveParts, loadOn};
 ghost use Rattle.emulator.specs.Calls as calls;
 ghost use Rattle.emulator.specs.Contract.{Meets, MeetsAlone, lentMemory, leftMemory, remarkedMemory, told, toldLocation, runCall, withRegistersIn, withRunningIn};
 
-// The state that a caller keeps between calls: the length of memory noted at power on, the mapping table, the device's registers and
-// whether the device runs: it does where `running` is 1, and no other value of that byte says so. Any values may stand in the state:
-// each call says whether they make a sound one.
+// The state that a caller keeps between calls: the length of memory noted at power on, the mapping table, the device's registers,
+// whether the device runs, and which card it is, by its 64-bit words of features: 1 or 2. It runs where `running` is 1, and no other value
+// of that byte says so. Any values may stand in the state: each call says whether they make a sound one.
 #[repr(C)]
 pub struct State {
     pub memory_length: u64,
     pub table: Table,
     pub registers: Registers,
     pub running: u8,
+    pub words: u8,
 }
 
 // What the byte `running` of a state holds where the device runs.
@@ -47,10 +50,13 @@ pub enum Location {
     Refused(u32, u64),
 }
 
-// Whether the noted length and the mappings of a kept state are sound.
-fn sound_mappings(length: u64, table: Table) -> bool
-    ensures { λ r. ⌜ r ≡ (leb length memoryLimit and (leb (table .count) capacity and soundTable length (inUse table))) ⌝ }
+// Whether the card, the noted length and the mappings of a kept state are sound.
+fn sound_mappings(words: u8, length: u64, table: Table) -> bool
+    ensures { λ r. ⌜ r ≡ (isCard words and leb length memoryLimit and (leb (table .count) capacity and soundTable length (inUse table))) ⌝ }
 {
+    if !registers::is_card(words) {
+        return false;
+    }
     if address::MEMORY_LIMIT < length {
         return false;
     }
@@ -62,11 +68,11 @@ pub fn sound(state: State) -> bool
     ensures { λ r. ⌜ r ≡ soundMachine (machineOf state) ⌝ }
 {
     let table = state.table;
-    if !sound_mappings(state.memory_length, table) {
+    if !sound_mappings(state.words, state.memory_length, table) {
         return false;
     }
     let registers = state.registers;
-    registers::sound(registers)
+    registers::sound(state.words, registers)
 }
 
 // Whether memory and marks, by their lengths, can be lent.
@@ -92,9 +98,9 @@ pub fn usable(state: State, bytes: &[u8], shadow: &[u8]) -> bool
     sound(state)
 }
 
-// Fresh start: all marks cleared, memory left as it is, its length noted; an empty table, and the device stopped and reset.
-pub fn power_on(state: State, bytes: &[u8], shadow: &mut [u8]) -> Reply
-    ensures { λ r. ⌜ Meets powerOn [] state (lentMemory bytes shadow) (told (r .answer)) [] (remarkedMemory bytes shadow) (r .state) ⌝ }
+// Fresh start of a card: all marks cleared, memory left as it is, its length noted; an empty table, and the device stopped and reset.
+pub fn power_on(state: State, card: Card, bytes: &[u8], shadow: &mut [u8]) -> Reply
+    ensures { λ r. ⌜ Meets (powerOn card) [] state (lentMemory bytes shadow) (told (r .answer)) [] (remarkedMemory bytes shadow) (r .state) ⌝ }
 {
     if !lendable(bytes, shadow) {
         return Reply {
@@ -110,6 +116,7 @@ pub fn power_on(state: State, bytes: &[u8], shadow: &mut [u8]) -> Reply
     let registers = registers::reset();
     next.registers = registers;
     next.running = 0;
+    next.words = registers::words_of(card);
     Reply {
         answer: Answer::Done(0),
         state: next,
@@ -261,7 +268,7 @@ pub fn set_register(state: State, kind: u64, selector: u64, v: &[u8]) -> Reply
             state,
         };
     }
-    let verdict = registers::check_set(kind, selector, v);
+    let verdict = registers::check_set(state.words, kind, selector, v);
     match verdict {
         Verdict::Fail(code, place) => Reply {
             answer: Answer::Refused(code, place),
@@ -286,11 +293,11 @@ pub fn read_register(state: State, kind: u64, selector: u64, buf: &mut [u8]) -> 
         return Answer::Refused(answer::BAD_BENCH, 0);
     }
     let registers = state.registers;
-    let verdict = registers::check_read(registers, kind, selector, buf.len());
+    let verdict = registers::check_read(state.words, registers, kind, selector, buf.len());
     match verdict {
         Verdict::Fail(code, place) => Answer::Refused(code, place),
         Verdict::Pass => {
-            let n = registers::read(registers, kind, selector, buf);
+            let n = registers::read(state.words, registers, kind, selector, buf);
             Answer::Done(n as u64)
         }
     }
@@ -304,14 +311,16 @@ pub fn load_registers(state: State, stream: &[u8]) -> Loaded
 {
     let table = state.table;
     let registers = state.registers;
-    if !sound_mappings(state.memory_length, table) || !registers::sound(registers) {
+    if !sound_mappings(state.words, state.memory_length, table)
+        || !registers::sound(state.words, registers)
+    {
         let none = registers::blank();
         return Loaded {
             verdict: Verdict::Fail(answer::BAD_BENCH, 0),
             registers: none,
         };
     }
-    parts::load(state.running == RUNNING, stream)
+    parts::load(state.words, state.running == RUNNING, stream)
 }
 
 // Loads a stream of parts.
@@ -341,14 +350,16 @@ pub fn save_parts(state: State, buf: &mut [u8]) -> Answer
 {
     let table = state.table;
     let registers = state.registers;
-    if !sound_mappings(state.memory_length, table) || !registers::sound(registers) {
+    if !sound_mappings(state.words, state.memory_length, table)
+        || !registers::sound(state.words, registers)
+    {
         return Answer::Refused(answer::BAD_BENCH, 0);
     }
-    let verdict = parts::check_save(registers, state.running == RUNNING, buf.len());
+    let verdict = parts::check_save(state.words, registers, state.running == RUNNING, buf.len());
     match verdict {
         Verdict::Fail(code, place) => Answer::Refused(code, place),
         Verdict::Pass => {
-            let n = parts::save(registers, buf);
+            let n = parts::save(state.words, registers, buf);
             Answer::Done(n as u64)
         }
     }

@@ -41,16 +41,16 @@ width-none kind = go (eqb kind CommonField) (leb QueueConfig kind)
 -- ---- one part
 
 -- what passed checks tell of a part of a listed type
-module _ (twice : Bool) (kind flags selector : ℕ) (v : List ℕ) (h : partChecks twice kind flags selector v ≡ Pass) where
-  pub part-row : listed kind ≡ true → (rowOf kind selector < rowCount) × (length v ≡ sizeOf (rowOf kind selector))
+module _ (w : ℕ) (twice : Bool) (kind flags selector : ℕ) (v : List ℕ) (h : partChecks w twice kind flags selector v ≡ Pass) where
+  pub part-row : listed kind ≡ true → (rowOf kind selector < rowCount) × (length v ≡ sizeOf w (rowOf kind selector))
   unfolding partChecks listedChecks
   part-row l =
       let a = then-pass _ _ (sym (pick-true _ _ _ l) ∙ then-pass _ _ h .1) in
       let b = then-pass _ _ (then-pass _ _ (a .1) .1) in
-      (selected kind selector (unless-pass _ _ (b .0)), value-size _ _ v (b .1))
+      (selected kind selector (unless-pass _ _ (b .0)), value-size w _ _ v (b .1))
 
   -- of one that names a row
-  pub part-size : rowOf kind selector < rowCount → length v ≡ sizeOf (rowOf kind selector)
+  pub part-size : rowOf kind selector < rowCount → length v ≡ sizeOf w (rowOf kind selector)
   part-size lt = part-row (row-listed kind selector lt) .1
 
   -- of one that names none
@@ -66,34 +66,34 @@ slots-set (y ∷ file) zero x = refl
 slots-set (y ∷ file) (suc i) x = ap (λ (l : List Register). registerOf y ∷ l) (slots-set file i x)
 
 -- registers that are written as code writes them
-abbrev pub Canonical : List Register → Type 0
-Canonical slots = slots ≡ slotsOf (fileFrom 1 slots)
+abbrev pub Canonical : ℕ → List Register → Type 0
+Canonical w slots = slots ≡ slotsOf (fileFrom w 1 slots)
 
 -- a value that is set is in its row
-module _ (slots : List Register) (i : ℕ) (v : List ℕ) (pos : 0 < i) (size : length v ≡ sizeOf i) where
+module _ (w : ℕ) (slots : List Register) (i : ℕ) (v : List ℕ) (pos : 0 < i) (size : length v ≡ sizeOf w i) where
   row : 1 + (i - 1) ≡ i
   row = omega arith
 
-  pub kept-set : fileFrom 1 (set slots (i - 1) (registerOf (some v))) ≡ set (fileFrom 1 slots) (i - 1) (some v)
-  kept-set = file-set 1 slots (i - 1) v (rw row size)
+  pub kept-set : fileFrom w 1 (set slots (i - 1) (registerOf (some v))) ≡ set (fileFrom w 1 slots) (i - 1) (some v)
+  kept-set = file-set w 1 slots (i - 1) v (rw row size)
 
-  pub kept-canonical : Canonical slots → Canonical (set slots (i - 1) (registerOf (some v)))
+  pub kept-canonical : Canonical w slots → Canonical w (set slots (i - 1) (registerOf (some v)))
   kept-canonical e =
-      ap (λ (l : List Register). set l (i - 1) (registerOf (some v))) e ∙ sym (slots-set (fileFrom 1 slots) _ (some v)) ∙ ap slotsOf (sym kept-set)
+      ap (λ (l : List Register). set l (i - 1) (registerOf (some v))) e ∙ sym (slots-set (fileFrom w 1 slots) _ (some v)) ∙ ap slotsOf (sym kept-set)
 
 -- whether a row was named before
-module _ (x : Option (List ℕ)) (slots : List Register) (kind selector : ℕ) where
-  pub named-offered : rowOf kind selector ≡ 0 → named (seenIn x slots) kind selector ≡ isSome x
+module _ (w : ℕ) (x : Option (List ℕ)) (slots : List Register) (kind selector : ℕ) where
+  pub named-offered : rowOf kind selector ≡ 0 → named (seenIn w x slots) kind selector ≡ isSome x
   unfolding named
   named-offered e = rw e
 
-  pub named-kept : 0 < rowOf kind selector → named (seenIn x slots) kind selector ≡ flagged (getD slots (rowOf kind selector - 1) absent .set)
+  pub named-kept : 0 < rowOf kind selector → named (seenIn w x slots) kind selector ≡ flagged (getD slots (rowOf kind selector - 1) absent .set)
   unfolding named
   named-kept pos =
       let e : rowOf kind selector ≡ suc (rowOf kind selector - 1) = omega arith in
-      ap (λ (i : ℕ). isSome (getD (seenIn x slots) i none)) e ∙ set-at 1 slots (rowOf kind selector - 1)
+      ap (λ (i : ℕ). isSome (getD (seenIn w x slots) i none)) e ∙ set-at w 1 slots (rowOf kind selector - 1)
 
-  pub named-none : length slots ≡ 14 → rowCount ≤ rowOf kind selector → false ≡ named (seenIn x slots) kind selector
+  pub named-none : length slots ≡ 14 → rowCount ≤ rowOf kind selector → false ≡ named (seenIn w x slots) kind selector
   named-none long past =
       sym (named-kept (omega arith) ∙ ap (λ (r : Register). flagged (r .set)) (List·getD-eq-default slots absent {n = rowOf kind selector - 1} (omega arith)))
 
@@ -103,36 +103,36 @@ agree x y e = ap loadedOf (sym e)
 
 -- ---- the end of the stream
 
-module _ (x : Option (List ℕ)) (slots : List Register) (p : ℕ) where
-  pub finish-done : isSome (current (fileFrom 1 slots) statusRow) ≡ true → finish (seenIn x slots) p ≡ done (fileFrom 1 slots)
+module _ (w : ℕ) (x : Option (List ℕ)) (slots : List Register) (p : ℕ) where
+  pub finish-done : isSome (current w (fileFrom w 1 slots) statusRow) ≡ true → finish (seenIn w x slots) p ≡ done (fileFrom w 1 slots)
   unfolding finish settle _unless_ _at_ current
   finish-done h = rw h
 
-  pub finish-missing : isSome (current (fileFrom 1 slots) statusRow) ≡ false → finish (seenIn x slots) p ≡ refused Missing p
+  pub finish-missing : isSome (current w (fileFrom w 1 slots) statusRow) ≡ false → finish (seenIn w x slots) p ≡ refused Missing p
   unfolding finish settle _unless_ _at_ current
   finish-missing h = rw h
 
 -- the code asks the slot of status
-pub status-named : (slots : List Register) → flagged (getD slots 5 absent .set) ≡ isSome (current (fileFrom 1 slots) statusRow)
+pub status-named : (w : ℕ) (slots : List Register) → flagged (getD slots 5 absent .set) ≡ isSome (current w (fileFrom w 1 slots) statusRow)
 unfolding current
-status-named slots = sym (set-at 1 slots 5)
+status-named w slots = sym (set-at w 1 slots 5)
 
 -- ---- the loop over the parts
 
 -- at the head of the loop: the parts from `p` on decide, over what is seen
-pub record Loop (s : List ℕ) (p : ℕ) (slots : List Register) (offered : Bool) : Type 0 where
+pub record Loop (w : ℕ) (s : List ℕ) (p : ℕ) (slots : List Register) (offered : Bool) : Type 0 where
   pub fuel : ℕ
   pub enough : length s < p + fuel
   pub inside : p ≤ length s
   pub features : Option (List ℕ)
   pub flag : isSome features ≡ offered
-  pub rest : fromStart s ≡ loadFrom fuel s p (seenIn features slots)
+  pub rest : fromStart w s ≡ loadFrom w fuel s p (seenIn w features slots)
   pub long : length slots ≡ 14
-  pub canonical : Canonical slots
+  pub canonical : Canonical w slots
 
-pub loop-start : (s : List ℕ) (r : Register) → r ≡ registerOf none → Loop s 0 (replicate 14 r) false
+pub loop-start : (w : ℕ) (s : List ℕ) (r : Register) → r ≡ registerOf none → Loop w s 0 (replicate 14 r) false
 unfolding fileFrom slotsOf registerOf registerValue pick isSome
-loop-start s r e = rw e record {
+loop-start w s r e = rw e record {
   fuel = suc (length s);
   enough = omega arith;
   inside = omega arith;
@@ -143,22 +143,22 @@ loop-start s r e = rw e record {
   canonical = refl;
 }
 
-module _ (s : List ℕ) (p : ℕ) (slots : List Register) (offered : Bool) (l : Loop s p slots offered) where
+module _ (w : ℕ) (s : List ℕ) (p : ℕ) (slots : List Register) (offered : Bool) (l : Loop w s p slots offered) where
   abbrev seen : Seen
-  seen = seenIn (l .features) slots
+  seen = seenIn w (l .features) slots
 
   -- there is fuel for one part more
-  opened : (x : Step) → x ≡ stepAt s p → fromStart s ≡ onStep (loadFrom (l .fuel - 1) s) s p seen x
+  opened : (x : Step) → x ≡ stepAt s p → fromStart w s ≡ onStep w (loadFrom w (l .fuel - 1) s) s p seen x
   unfolding loadFrom
   opened x e =
       let one : l .fuel ≡ suc (l .fuel - 1) = omega (arith, l .enough, l .inside) in
-      l .rest ∙ ap (λ (fuel : ℕ). loadFrom fuel s p seen) one ∙ rw e
+      l .rest ∙ ap (λ (fuel : ℕ). loadFrom w fuel s p seen) one ∙ rw e
 
-  pub loop-end : End ≡ stepAt s p → fromStart s ≡ finish seen p
+  pub loop-end : End ≡ stepAt s p → fromStart w s ≡ finish seen p
   unfolding onStep
   loop-end e = opened End e
 
-  pub loop-refused : (code place : ℕ) → Refused code place ≡ stepAt s p → fromStart s ≡ refused code place
+  pub loop-refused : (code place : ℕ) → Refused code place ≡ stepAt s p → fromStart w s ≡ refused code place
   unfolding onStep
   loop-refused code place e = opened (Refused code place) e
 
@@ -167,13 +167,13 @@ module _ (s : List ℕ) (p : ℕ) (slots : List Register) (offered : Bool) (l : 
     abbrev v : List ℕ
     v = valueTo s p next
 
-    pub loop-fault : (code place : ℕ) → Fail code place ≡ partChecks twice kind flags selector v → fromStart s ≡ refused code p
+    pub loop-fault : (code place : ℕ) → Fail code place ≡ partChecks w twice kind flags selector v → fromStart w s ≡ refused code p
     unfolding onStep settle _onward_ _at_
     loop-fault code place f = opened (Part kind flags selector next) e ∙ rw (← known, ← f)
 
-    module _ (f : Pass ≡ partChecks twice kind flags selector v) where
-      goes-on : (x : Option (List ℕ)) (slots′ : List Register) (offered′ : Bool) → isSome x ≡ offered′ → taken seen kind selector v ≡ seenIn x slots′
-          → length slots′ ≡ 14 → Canonical slots′ → Loop s next slots′ offered′
+    module _ (f : Pass ≡ partChecks w twice kind flags selector v) where
+      goes-on : (x : Option (List ℕ)) (slots′ : List Register) (offered′ : Bool) → isSome x ≡ offered′ → taken seen kind selector v ≡ seenIn w x slots′
+          → length slots′ ≡ 14 → Canonical w slots′ → Loop w s next slots′ offered′
       unfolding onStep settle _onward_ _at_
       goes-on x slots′ offered′ flag now long canonical =
           let says = step-says s p kind flags selector next e in
@@ -193,27 +193,27 @@ module _ (s : List ℕ) (p : ℕ) (slots : List Register) (offered : Bool) (l : 
       unfolding taken pick
       listed-taken lt = rw (row-listed kind selector lt)
 
-      pub loop-offered : rowOf kind selector ≡ 0 → Loop s next slots true
+      pub loop-offered : rowOf kind selector ≡ 0 → Loop w s next slots true
       unfolding isSome
       loop-offered z =
           goes-on (some v) slots true refl (listed-taken (omega arith) ∙ rw z) (l .long) (l .canonical)
 
       pub loop-kept : 0 < rowOf kind selector → rowOf kind selector < rowCount
-          → Loop s next (set slots (rowOf kind selector - 1) (registerOf (some v))) offered
+          → Loop w s next (set slots (rowOf kind selector - 1) (registerOf (some v))) offered
       loop-kept pos lt =
-          let size = part-size twice kind flags selector v (sym f) lt in
+          let size = part-size w twice kind flags selector v (sym f) lt in
           let i : rowOf kind selector ≡ suc (rowOf kind selector - 1) = omega arith in
           goes-on (l .features) _ offered (l .flag)
-          (listed-taken lt ∙ ap (λ (i : ℕ). set seen i (some v)) i ∙ ap (λ (file : File). l .features ∷ file) (sym (kept-set slots _ v pos size)))
-          (length-set slots _ _ ∙ l .long) (kept-canonical slots _ v pos size (l .canonical))
+          (listed-taken lt ∙ ap (λ (i : ℕ). set seen i (some v)) i ∙ ap (λ (file : File). l .features ∷ file) (sym (kept-set w slots _ v pos size)))
+          (length-set slots _ _ ∙ l .long) (kept-canonical w slots _ v pos size (l .canonical))
 
-      pub loop-skipped : rowCount ≤ rowOf kind selector → Loop s next slots offered
+      pub loop-skipped : rowCount ≤ rowOf kind selector → Loop w s next slots offered
       unfolding taken pick
       loop-skipped past =
-          goes-on (l .features) slots offered (l .flag) (rw (part-unlisted twice kind flags selector v (sym f) past)) (l .long) (l .canonical)
+          goes-on (l .features) slots offered (l .flag) (rw (part-unlisted w twice kind flags selector v (sym f) past)) (l .long) (l .canonical)
 
 -- ---- the checks before the first part
 
-pub load-parts : (running : Bool) (s : List ℕ) → running ≡ false → length s ≤ transferLimit → load running s ≡ fromStart s
+pub load-parts : (w : ℕ) (running : Bool) (s : List ℕ) → running ≡ false → length s ≤ transferLimit → load w running s ≡ fromStart w s
 unfolding load lengthCheck settle _onward_ _then_ _when_
-load-parts running s e h = rw (e, le-ltb _ _ h)
+load-parts w running s e h = rw (e, le-ltb _ _ h)

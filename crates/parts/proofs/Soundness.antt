@@ -43,69 +43,69 @@ onward-done (refused code place) f b e = never-done e
 -- ---- what is seen stays sound
 
 -- each value seen passes its row's checks
-pub record Good (seen : Seen) : Type 0 where
+pub record Good (w : ℕ) (seen : Seen) : Type 0 where
   pub long : length seen ≡ rowCount
-  pub sound : soundValuesFrom 0 seen ≡ true
+  pub sound : soundValuesFrom w 0 seen ≡ true
 
 -- a value that passes passes as the first one, too
-once : (i : ℕ) (twice : Bool) (v : List ℕ) → valueChecks i twice v ≡ Pass → valueChecks i false v ≡ Pass
+once : (w i : ℕ) (twice : Bool) (v : List ℕ) → valueChecks w i twice v ≡ Pass → valueChecks w i false v ≡ Pass
 unfolding valueChecks
-once i twice v h = ap (λ (t : Bool). valueChecks i t v) (sym (when-pass _ _ (then-pass _ _ (then-pass _ _ h .1) .0))) ∙ h
+once w i twice v h = ap (λ (t : Bool). valueChecks w i t v) (sym (when-pass _ _ (then-pass _ _ (then-pass _ _ h .1) .0))) ∙ h
 
-module _ (seen : Seen) (twice : Bool) (kind flags selector : ℕ) (v : List ℕ) (h : partChecks twice kind flags selector v ≡ Pass) (good : Good seen) where
-  value-good : listed kind ≡ true → valueChecks (rowOf kind selector) false v ≡ Pass
+module _ (w : ℕ) (seen : Seen) (twice : Bool) (kind flags selector : ℕ) (v : List ℕ) (h : partChecks w twice kind flags selector v ≡ Pass) (good : Good w seen) where
+  value-good : listed kind ≡ true → valueChecks w (rowOf kind selector) false v ≡ Pass
   unfolding partChecks listedChecks
   value-good l =
       let a = then-pass _ _ (sym (pick-true _ _ _ l) ∙ then-pass _ _ h .1) in
-      once _ _ v (then-pass _ _ (then-pass _ _ (a .1) .1) .1)
+      once w _ _ v (then-pass _ _ (then-pass _ _ (a .1) .1) .1)
 
-  taken-good : Good (taken seen kind selector v)
+  taken-good : Good w (taken seen kind selector v)
   unfolding taken pick
   taken-good = go (listed kind) refl
     where
-      go : (t : Bool) → listed kind ≡ t → Good (pick t (set seen (rowOf kind selector) (some v)) seen)
+      go : (t : Bool) → listed kind ≡ t → Good w (pick t (set seen (rowOf kind selector) (some v)) seen)
       go true e =
           let i : 0 + rowOf kind selector ≡ rowOf kind selector = omega arith in
           record {
             long = length-set seen (rowOf kind selector) (some v) ∙ good .long;
-            sound = sound-set 0 seen (rowOf kind selector) v (good .sound) (rw i (value-good e));
+            sound = sound-set w 0 seen (rowOf kind selector) v (good .sound) (rw i (value-good e));
           }
       go false e = good
 
 -- ---- the whole stream
 
-unfoldable Sound : File → Type 0
-Sound file = (length file ≡ keptCount) × (soundFile file ≡ true)
+unfoldable Sound : ℕ → File → Type 0
+Sound w file = (length file ≡ keptCount) × (soundFile w file ≡ true)
 
-finish-sound : (seen : Seen) (p : ℕ) (file : File) → finish seen p ≡ done file → Good seen → Sound file
+finish-sound : (w : ℕ) (seen : Seen) (p : ℕ) (file : File) → finish seen p ≡ done file → Good w seen → Sound w file
 unfolding finish soundFile current Sound
-finish-sound [] p file e good = absurd (omega (arith, good .long))
-finish-sound (x ∷ rest) p file e good =
+finish-sound w [] p file e good = absurd (omega (arith, good .long))
+finish-sound w (x ∷ rest) p file e good =
     let d = settled _ _ _ e in
     rw (← d .1)
-    (omega (arith, good .long), and-made _ _ (unless-pass _ _ (at-pass _ p (d .0))) (and-true _ _ (sym (sound-cons 0 x rest) ∙ good .sound) .1))
+    (omega (arith, good .long), and-made _ _ (unless-pass _ _ (at-pass _ p (d .0))) (and-true _ _ (sym (sound-cons w 0 x rest) ∙ good .sound) .1))
 
-from-sound : (fuel : ℕ) (s : List ℕ) (p : ℕ) (seen : Seen) (file : File) → loadFrom fuel s p seen ≡ done file → Good seen → Sound file
+from-sound : (w fuel : ℕ) (s : List ℕ) (p : ℕ) (seen : Seen) (file : File) → loadFrom w fuel s p seen ≡ done file → Good w seen → Sound w file
 unfolding loadFrom onStep
-from-sound zero s p seen file e good = never-done e
-from-sound (suc fuel) s p seen file e good = step (stepAt s p) e (λ p′ seen′. from-sound fuel s p′ seen′ file)
+from-sound w zero s p seen file e good = never-done e
+from-sound w (suc fuel) s p seen file e good = step (stepAt s p) e (λ p′ seen′. from-sound w fuel s p′ seen′ file)
   where
-    step : (x : Step) → onStep (loadFrom fuel s) s p seen x ≡ done file
-        → ((p′ : ℕ) (seen′ : Seen) → loadFrom fuel s p′ seen′ ≡ done file → Good seen′ → Sound file) → Sound file
-    step End e more = finish-sound seen p file e good
+    step : (x : Step) → onStep w (loadFrom w fuel s) s p seen x ≡ done file
+        → ((p′ : ℕ) (seen′ : Seen) → loadFrom w fuel s p′ seen′ ≡ done file → Good w seen′ → Sound w file) → Sound w file
+    step End e more = finish-sound w seen p file e good
     step (Refused code place) e more = never-done e
     step (Part kind flags selector next) e more =
         let o = onward-done _ _ _ e in
         let d = settled _ _ _ (o .1) in
-        more next (o .0) (o .2) (rw (← d .1) (taken-good seen _ kind flags selector _ (at-pass _ p (d .0)) good))
+        more next (o .0) (o .2) (rw (← d .1) (taken-good w seen _ kind flags selector _ (at-pass _ p (d .0)) good))
 
 -- What an accepted stream makes is a sound register file.
-pub load-sound : (running : Bool) (s : List ℕ) (file : File) → load running s ≡ done file → (length file ≡ keptCount) × (soundFile file ≡ true)
+pub load-sound : (w : ℕ) (running : Bool) (s : List ℕ) (file : File) → load w running s ≡ done file → (length file ≡ keptCount) × (soundFile w file ≡ true)
 unfolding load Sound soundValuesFrom soundValue _and_
-load-sound running s file e =
+load-sound w running s file e =
     let o = onward-done _ _ _ e in
     let d = settled _ _ _ (o .1) in
-    from-sound (suc (length s)) s 0 (o .0) file (o .2) (rw (← d .1) record { long = refl; sound = refl })
+    from-sound w (suc (length s)) s 0 (o .0) file (o .2) (rw (← d .1) record { long = refl; sound = refl })
 
 -- ---- what `load` gives
 
@@ -115,10 +115,10 @@ loaded-verdict (done file) = refl
 loaded-verdict (refused code place) = refl
 
 -- the registers that code writes for an accepted stream are the file that it makes
-pub loaded-file : (running : Bool) (s : List ℕ) (old : File) → verdict (load running s) ≡ Pass → fileOf (record { slots = slotsOf (resultOr old (load running s)) }) ≡ resultOr old (load running s)
+pub loaded-file : (w : ℕ) (running : Bool) (s : List ℕ) (old : File) → verdict (load w running s) ≡ Pass → fileOf w (record { slots = slotsOf (resultOr old (load w running s)) }) ≡ resultOr old (load w running s)
 unfolding fileOf soundFile resultOr verdict
-loaded-file running s old = go (load running s) refl
+loaded-file w running s old = go (load w running s) refl
   where
-    go : (x : Answer File) → load running s ≡ x → verdict x ≡ Pass → fileOf (record { slots = slotsOf (resultOr old x) }) ≡ resultOr old x
-    go (done file) e ok = file-written 1 file (sound-sized 1 file (and-true _ _ (load-sound running s file e .1) .1))
+    go : (x : Answer File) → load w running s ≡ x → verdict x ≡ Pass → fileOf w (record { slots = slotsOf (resultOr old x) }) ≡ resultOr old x
+    go (done file) e ok = file-written w 1 file (sound-sized w 1 file (and-true _ _ (load-sound w running s file e .1) .1))
     go (refused code place) e ok = never code place ok

@@ -3,13 +3,15 @@ use answer::Verdict;
 use registers::Register;
 use registers::Registers;
 ghost use mathlib.Core.Path.{_≡_};
+ghost use mathlib.Core.Bool.{true};
 ghost use mathlib.Core.List.{List};
 ghost use mathlib.Core.Option.{Option};
-ghost use Prim.Native.Nat.{ℕ, _+_, _^_, _≤_, _<_};
+ghost use Prim.Native.Nat.{ℕ, _+_, _*_, _^_, _≤_, _<_};
 ghost use lib.ListN.{length, take};
 ghost use lib.Seq.{sets};
 ghost use Rattle.answer.specs.Answer.{refused as refusal};
 ghost use Rattle.answer.specs.Tests.{isSome};
+ghost use Rattle.registers.specs.Cards.{isCard, wordRoom};
 ghost use Rattle.registers.specs.Rows.{rowCount, statusRow, rowOf, sizeOf, selectorWidth};
 ghost use Rattle.registers.specs.File.{current, fileOf, fileFrom, slotsOf};
 ghost use Rattle.parts.specs.Step.{headerSize, partStep, stepAt, valueTo, valueAt};
@@ -133,9 +135,17 @@ fn selector_limit(kind: u64) -> u64
 }
 
 // A part of a listed type. It names a row of the table, which a part named before where `twice` is true.
-fn check_listed(row: usize, twice: bool, kind: u64, flags: u8, selector: u64, v: &[u8]) -> Verdict
-    requires { ⌜ row ≡ rowOf kind selector ⌝ }
-    ensures { λ r. ⌜ r ≡ listedChecks twice kind flags selector (now (v .entry)) ⌝ }
+fn check_listed(
+    words: u8,
+    row: usize,
+    twice: bool,
+    kind: u64,
+    flags: u8,
+    selector: u64,
+    v: &[u8],
+) -> Verdict
+    requires { ⌜ (isCard words ≡ true) × (row ≡ rowOf kind selector) ⌝ }
+    ensures { λ r. ⌜ r ≡ listedChecks words twice kind flags selector (now (v .entry)) ⌝ }
 {
     if flags != flags_of(kind) {
         return Verdict::Fail(answer::HEADER, 0);
@@ -146,18 +156,32 @@ fn check_listed(row: usize, twice: bool, kind: u64, flags: u8, selector: u64, v:
     if registers::ROWS <= row {
         return Verdict::Fail(answer::INDEX, 0);
     }
-    registers::check_value(row, twice, v)
+    if v.len() != registers::size_of(words, row) {
+        return Verdict::Fail(answer::VALUE, 0);
+    }
+    if twice {
+        return Verdict::Fail(answer::TWICE, 0);
+    }
+    registers::check_content(words, row, v)
 }
 
-fn check_part(row: usize, twice: bool, kind: u64, flags: u8, selector: u64, v: &[u8]) -> Verdict
-    requires { ⌜ row ≡ rowOf kind selector ⌝ }
-    ensures { λ r. ⌜ r ≡ partChecks twice kind flags selector (now (v .entry)) ⌝ }
+fn check_part(
+    words: u8,
+    row: usize,
+    twice: bool,
+    kind: u64,
+    flags: u8,
+    selector: u64,
+    v: &[u8],
+) -> Verdict
+    requires { ⌜ (isCard words ≡ true) × (row ≡ rowOf kind selector) ⌝ }
+    ensures { λ r. ⌜ r ≡ partChecks words twice kind flags selector (now (v .entry)) ⌝ }
 {
     if RESERVED_KINDS <= kind {
         return Verdict::Fail(answer::UNKNOWN_PART, 0);
     }
     if registers::is_listed(kind) {
-        return check_listed(row, twice, kind, flags, selector, v);
+        return check_listed(words, row, twice, kind, flags, selector, v);
     }
     if flags == 1 {
         Verdict::Pass
@@ -178,9 +202,9 @@ fn refused(code: u32, place: u64) -> Loaded
 }
 
 // The end of the stream, at place `at`, where `named` is whether a part named status. Registers that no part named are not set.
-fn finish(slots: [Register; registers::SLOTS], named: bool, at: usize) -> Loaded
-    requires { ⌜ (slots ≡ slotsOf (fileFrom 1 slots)) × (named ≡ isSome (current (fileFrom 1 slots) statusRow)) ⌝ }
-    ensures { λ r. ⌜ ((x : Option (List ℕ)) → r ≡ loadedOf (finished (seenIn x slots) at)) ⌝ }
+fn finish(words: u8, slots: [Register; registers::SLOTS], named: bool, at: usize) -> Loaded
+    requires { ⌜ (slots ≡ slotsOf (fileFrom words 1 slots)) × (named ≡ isSome (current words (fileFrom words 1 slots) statusRow)) ⌝ }
+    ensures { λ r. ⌜ ((x : Option (List ℕ)) → r ≡ loadedOf (finished (seenIn words x slots) at)) ⌝ }
 {
     if named {
         return Loaded {
@@ -193,8 +217,9 @@ fn finish(slots: [Register; registers::SLOTS], named: bool, at: usize) -> Loaded
 
 // Each part in order: `slots` has the registers that parts named, and `offered` is whether one named offered features, which are not kept.
 // The slots are read and set in place, since a call would copy them all.
-fn load_parts(s: &[u8]) -> Loaded
-    ensures { λ r. ⌜ r ≡ loadedOf (fromStart (now (s .entry))) ⌝ }
+fn load_parts(words: u8, s: &[u8]) -> Loaded
+    requires { ⌜ isCard words ≡ true ⌝ }
+    ensures { λ r. ⌜ r ≡ loadedOf (fromStart words (now (s .entry))) ⌝ }
 {
     let none = registers::unset();
     let mut slots = [none; registers::SLOTS];
@@ -205,7 +230,7 @@ fn load_parts(s: &[u8]) -> Loaded
         match step {
             Step::End => {
                 let status = slots[registers::STATUS_ROW - 1];
-                return finish(slots, status.set == registers::SET, at);
+                return finish(words, slots, status.set == registers::SET, at);
             }
             Step::Refused(code, place) => {
                 return refused(code, place);
@@ -225,7 +250,7 @@ fn load_parts(s: &[u8]) -> Loaded
                     let r = slots[row - 1];
                     twice = r.set == registers::SET;
                 }
-                let verdict = check_part(row, twice, kind as u64, flags, selector, v);
+                let verdict = check_part(words, row, twice, kind as u64, flags, selector, v);
                 match verdict {
                     Verdict::Fail(code, _) => {
                         return refused(code, at as u64);
@@ -245,8 +270,10 @@ fn load_parts(s: &[u8]) -> Loaded
     }
 }
 
-pub fn load(running: bool, s: &[u8]) -> Loaded
-    ensures { λ r. ⌜ r ≡ loadedOf (loading running (now (s .entry))) ⌝ }
+// Loads a stream on a card with so many words of features.
+pub fn load(words: u8, running: bool, s: &[u8]) -> Loaded
+    requires { ⌜ isCard words ≡ true ⌝ }
+    ensures { λ r. ⌜ r ≡ loadedOf (loading words running (now (s .entry))) ⌝ }
 {
     if running {
         return refused(answer::RUNNING, 0);
@@ -254,39 +281,56 @@ pub fn load(running: bool, s: &[u8]) -> Loaded
     if answer::TRANSFER_LIMIT < s.len() {
         return refused(answer::TOO_LONG, 0);
     }
-    load_parts(s)
+    load_parts(words, s)
 }
 
 // ---- saving
 
-// Writes the part of a row from `at` on; its value stands at the start of the register's bytes.
-fn put_part(buf: &mut [u8], at: usize, row: usize, r: Register)
-    requires { ⌜ (row < rowCount) × (length (r .bytes) ≡ 32) × (at + headerSize + sizeOf row ≤ length (now buf)) ⌝ }
-    ensures { λ x. ⌜ now (buf .exit) ≡ sets (now (buf .entry)) at (encoded row (take (sizeOf row) (r .bytes))) ⌝ }
+// Writes as many of the words at the start of some bytes as the card has, from `at` on.
+fn put_words(words: u8, buf: &mut [u8], at: usize, bytes: &[u8])
+    requires { ⌜ (isCard words ≡ true) × (at + 8 * words ≤ length (now buf)) × (8 * words ≤ length (now bytes)) ⌝ }
+    ensures { λ x. ⌜ now (buf .exit) ≡ sets (now (buf .entry)) at (take (8 * words) (now (bytes .entry))) ⌝ }
+{
+    wire::copy(buf, at, bytes, 0, 8);
+    if 1 < words {
+        wire::copy(buf, at + 8, bytes, 8, 8);
+    }
+}
+
+// Writes the part of a row from `at` on; its value stands at the start of the register's bytes. The size of features, which is not known
+// when this is compiled, goes by words: a copy whose size is written out is a load and a store.
+fn put_part(words: u8, buf: &mut [u8], at: usize, row: usize, r: Register)
+    requires { ⌜ (isCard words ≡ true) × (row < rowCount) × (length (r .bytes) ≡ 32) × (at + headerSize + sizeOf words row ≤ length (now buf)) ⌝ }
+    ensures { λ x. ⌜ now (buf .exit) ≡ sets (now (buf .entry)) at (encoded words row (take (sizeOf words row) (r .bytes))) ⌝ }
 {
     let kind = registers::kind_of(row);
-    let size = registers::size_of(row);
+    let size = registers::size_of(words, row);
     wire::put_u16(buf, at, kind as u16);
     wire::put_u8(buf, at + 2, flags_of(kind));
     wire::put_u8(buf, at + 3, 0);
     wire::put_u64(buf, at + 4, registers::selector_of(row));
     wire::put_u32(buf, at + 12, size as u32);
     let bytes = r.bytes;
-    wire::copy(buf, at + HEADER_SIZE, &bytes, 0, size);
+    if row < 2 {
+        put_words(words, buf, at + HEADER_SIZE, &bytes);
+    } else {
+        wire::copy(buf, at + HEADER_SIZE, &bytes, 0, size);
+    }
 }
 
 // How many bytes saving writes. Offered features are always among them; the slots are read in place, since a call for each row would
 // copy them all.
-fn saved_length(registers: Registers) -> usize
-    ensures { λ r. ⌜ r ≡ length (saved (fileOf registers)) ⌝ }
+fn saved_length(words: u8, registers: Registers) -> usize
+    requires { ⌜ words ≤ wordRoom ⌝ }
+    ensures { λ r. ⌜ r ≡ length (saved words (fileOf words registers)) ⌝ }
 {
     let slots = registers.slots;
-    let mut n: usize = HEADER_SIZE + registers::size_of(0);
+    let mut n: usize = HEADER_SIZE + registers::size_of(words, 0);
     let mut i: usize = 0;
     while i < registers::SLOTS {
         let r = slots[i];
         if r.set == registers::SET {
-            n = n + HEADER_SIZE + registers::size_of(i + 1);
+            n = n + HEADER_SIZE + registers::size_of(words, i + 1);
         }
         i += 1;
     }
@@ -294,13 +338,14 @@ fn saved_length(registers: Registers) -> usize
 }
 
 // Saving into a buffer of `room` bytes.
-pub fn check_save(registers: Registers, running: bool, room: usize) -> Verdict
-    ensures { λ r. ⌜ r ≡ saveChecks running (fileOf registers) room ⌝ }
+pub fn check_save(words: u8, registers: Registers, running: bool, room: usize) -> Verdict
+    requires { ⌜ words ≤ wordRoom ⌝ }
+    ensures { λ r. ⌜ r ≡ saveChecks words running (fileOf words registers) room ⌝ }
 {
     if running {
         return Verdict::Fail(answer::RUNNING, 0);
     }
-    if room < saved_length(registers) {
+    if room < saved_length(words, registers) {
         return Verdict::Fail(answer::NO_SPACE, 0);
     }
     Verdict::Pass
@@ -308,20 +353,20 @@ pub fn check_save(registers: Registers, running: bool, room: usize) -> Verdict
 
 // Writes the parts of the registers that are set, and of offered features, to the start of a buffer that has the room, and reports
 // their length.
-pub fn save(registers: Registers, buf: &mut [u8]) -> usize
-    requires { ⌜ length (saved (fileOf registers)) ≤ length (now buf) ⌝ }
-    ensures { λ r. ⌜ (now (buf .exit) ≡ sets (now (buf .entry)) 0 (saved (fileOf registers))) × (r ≡ length (saved (fileOf registers))) ⌝ }
+pub fn save(words: u8, registers: Registers, buf: &mut [u8]) -> usize
+    requires { ⌜ (isCard words ≡ true) × (length (saved words (fileOf words registers)) ≤ length (now buf)) ⌝ }
+    ensures { λ r. ⌜ (now (buf .exit) ≡ sets (now (buf .entry)) 0 (saved words (fileOf words registers))) × (r ≡ length (saved words (fileOf words registers))) ⌝ }
 {
     let slots = registers.slots;
     let features = registers::offered();
-    put_part(buf, 0, 0, features);
-    let mut at: usize = HEADER_SIZE + registers::size_of(0);
+    put_part(words, buf, 0, 0, features);
+    let mut at: usize = HEADER_SIZE + registers::size_of(words, 0);
     let mut i: usize = 0;
     while i < registers::SLOTS {
         let r = slots[i];
         if r.set == registers::SET {
-            put_part(buf, at, i + 1, r);
-            at = at + HEADER_SIZE + registers::size_of(i + 1);
+            put_part(words, buf, at, i + 1, r);
+            at = at + HEADER_SIZE + registers::size_of(words, i + 1);
         }
         i += 1;
     }

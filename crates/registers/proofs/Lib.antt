@@ -1,5 +1,7 @@
+pub mod Cards
 pub mod Rows
 pub mod PowersOfTwo
+pub mod Features
 pub mod Values
 pub mod File
 pub mod Access

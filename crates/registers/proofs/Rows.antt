@@ -1,8 +1,8 @@
 -- Laws of the table of registers: its rules, each computed once over all rows, and the search for a row.
-use Prim.Native.Nat.{ℕ, zero, suc, _+_, _^_, _≤_, _<_}
+use Prim.Native.Nat.{ℕ, zero, suc, _+_, _*_, _^_, _≤_, _<_}
 use native.Mathlib.Omega.{arith}
 use mathlib.Core.Path.{_≡_, refl, sym, _∙_, ap}
-use mathlib.Core.Bool.{Bool, true, false, not}
+use mathlib.Core.Bool.{Bool, true, false, not, false≢true}
 use mathlib.Core.List.{map}
 use mathlib.Core.Logic.{_⊎_, inl, inr, ⊎-elim}
 use lib.ListN.{getD, List·getD-map}
@@ -10,7 +10,8 @@ use lib.Dec.{eqb, ltb, leb}
 use borrow.Author.Tests.{eq-eqb, eqb-true, leb-true, le-leb, ltb-true, ltb-false, le-ltb}
 use Rattle.answer.specs.Tests.{_and_, _or_, pick}
 use Rattle.answer.proofs.Tests.{and-true, and-made, below, below-at}
-use Rattle.registers.specs.Rows.{Row, rows, noRow, rowCount, OfferedFeatures, DriverFeatures, QueueConfig, NotifyConfig, kindOf, selectorOf, sizeOf, rowFrom, rowOf, selects, listed}
+use Rattle.registers.specs.Cards.{wordRoom}
+use Rattle.registers.specs.Rows.{Width, fixed, features, Row, rows, noRow, rowCount, OfferedFeatures, NotifyConfig, kindOf, selectorOf, widthOf, sizeIn, sizeOf, rowFrom, rowOf, selects, listed}
 
 -- A column of the table: a list that computes to it has at each place what the row there has.
 pub column : (f : Row → ℕ) (i : ℕ) → getD (map f rows) i (f noRow) ≡ f (getD rows i noRow)
@@ -23,9 +24,24 @@ in-range f x low high all i l h = sym (eqb-true _ _ (rw (le-ltb i low l) at (bel
 
 -- ---- rules of the rows
 
-pub size-most : (i : ℕ) → i < rowCount → sizeOf i ≤ 32
-unfolding sizeOf below _and_
-size-most i h = leb-true _ _ (below-at (λ i. leb (sizeOf i) 32) rowCount refl i h)
+unfoldable narrow : Width → Bool
+narrow (fixed n) = leb n 32
+narrow features = true
+
+pub size-most : (w i : ℕ) → w ≤ wordRoom → i < rowCount → sizeOf w i ≤ 32
+unfolding sizeOf sizeIn widthOf below narrow _and_
+size-most w i small h = go (widthOf i) (below-at (λ i. narrow (widthOf i)) rowCount refl i h)
+  where
+    go : (x : Width) → narrow x ≡ true → sizeIn w x ≤ 32
+    go (fixed n) e = leb-true n 32 e
+    go features e = omega arith
+
+-- the values of the first two rows are the card's features
+pub features-size : (w i : ℕ) → i < 2 → 8 * w ≡ sizeOf w i
+unfolding sizeOf sizeIn widthOf
+features-size w zero h = refl
+features-size w (suc zero) h = refl
+features-size w (suc (suc i)) h = absurd (omega arith)
 
 pub kind-fits : (i : ℕ) → i < rowCount → kindOf i < 256 ^ 2
 unfolding kindOf below _and_
@@ -41,14 +57,25 @@ pub selector-fits : (i : ℕ) → i < rowCount → selectorOf i < 256 ^ 8
 unfolding selectorOf below _and_
 selector-fits i h = ltb-true _ _ (below-at (λ i. ltb (selectorOf i) (256 ^ 8)) rowCount refl i h)
 
--- how many bytes of a value the rule of its type looks at
-unfoldable pub looked : ℕ → ℕ
-looked kind = pick (eqb kind QueueConfig) 32 (pick (eqb kind OfferedFeatures) 8 (pick (eqb kind DriverFeatures) 8 (pick (eqb kind NotifyConfig) 8 0)))
+unfoldable pub same : Width → Width → Bool
+same (fixed n) (fixed m) = eqb n m
+same (fixed n) features = false
+same features (fixed m) = false
+same features features = true
 
-pub looked-fits : (kind i : ℕ) → i < rowCount → kind ≡ kindOf i → looked kind ≤ sizeOf i
-unfolding looked kindOf sizeOf below _and_ pick
-looked-fits kind i h e =
-    rw e (leb-true _ _ (below-at (λ i. leb (looked (kindOf i)) (sizeOf i)) rowCount refl i h))
+same-size : (w : ℕ) (x y : Width) → same x y ≡ true → sizeIn w x ≡ sizeIn w y
+unfolding same sizeIn
+same-size w (fixed n) (fixed m) h = eqb-true n m h
+same-size w (fixed n) features h = absurd (false≢true h)
+same-size w features (fixed m) h = absurd (false≢true h)
+same-size w features features h = refl
+
+-- A type whose rows all have one size, which is computed.
+pub kind-size : (kind : ℕ) (x : Width) → below (λ i. not (eqb (kindOf i) kind) or same (widthOf i) x) rowCount ≡ true
+    → (w i : ℕ) → i < rowCount → kind ≡ kindOf i → sizeOf w i ≡ sizeIn w x
+unfolding sizeOf _or_
+kind-size kind x all w i h e =
+    same-size w (widthOf i) x (rw (eq-eqb _ _ (sym e)) at (below-at (λ i. not (eqb (kindOf i) kind) or same (widthOf i) x) rowCount all i h))
 
 -- only the first row is of offered features
 pub kept-row : (i : ℕ) → i < rowCount → (kindOf i ≡ OfferedFeatures → ⊥) → 0 < i

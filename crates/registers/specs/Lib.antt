@@ -1,3 +1,4 @@
+pub mod Cards
 pub mod Rows
 pub mod PowersOfTwo
 pub mod Values

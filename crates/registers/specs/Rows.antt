@@ -1,5 +1,5 @@
 -- The rows of the register table (rule 5.2), by rising type and then rising selector.
-use Prim.Native.Nat.{ℕ, zero, suc, _^_}
+use Prim.Native.Nat.{ℕ, zero, suc, _*_}
 use mathlib.Core.Bool.{Bool}
 use mathlib.Core.List.{List, [], _∷_}
 use lib.ListN.{length, getD}
@@ -25,33 +25,38 @@ QueueConfig = 0x104
 abbrev pub NotifyConfig : ℕ
 NotifyConfig = 0x105
 
+-- the size of a value: so many bytes, or as many as the card's words of features take (rule 5.21)
+pub data Width : Type 0 where
+  fixed : ℕ → Width
+  features : Width
+
 -- a register: its part's type, its selector number and the size of its value
 pub record Row : Type 0 where
   pub kind : ℕ
   pub selector : ℕ
-  pub size : ℕ
+  pub width : Width
 
-abbrev pub row : ℕ → ℕ → ℕ → Row
-row kind selector size = record { kind = kind; selector = selector; size = size }
+abbrev pub row : ℕ → ℕ → Width → Row
+row kind selector width = record { kind = kind; selector = selector; width = width }
 
 -- Row 0 is the constant; the others are kept.
 abbrev pub rows : List Row
 rows =
-    row OfferedFeatures 0 8
-    ∷ row DriverFeatures 0 8
-    ∷ row CommonField 0 4
-    ∷ row CommonField 8 4
-    ∷ row CommonField 16 2
-    ∷ row CommonField 22 2
-    ∷ row DeviceStatus 0 1
-    ∷ row QueueConfig 0 32
-    ∷ row QueueConfig 1 32
-    ∷ row QueueConfig 2 32
-    ∷ row QueueConfig 3 32
-    ∷ row NotifyConfig 0 8
-    ∷ row NotifyConfig 1 8
-    ∷ row NotifyConfig 2 8
-    ∷ row NotifyConfig 3 8
+    row OfferedFeatures 0 features
+    ∷ row DriverFeatures 0 features
+    ∷ row CommonField 0 (fixed 4)
+    ∷ row CommonField 8 (fixed 4)
+    ∷ row CommonField 16 (fixed 2)
+    ∷ row CommonField 22 (fixed 2)
+    ∷ row DeviceStatus 0 (fixed 1)
+    ∷ row QueueConfig 0 (fixed 32)
+    ∷ row QueueConfig 1 (fixed 32)
+    ∷ row QueueConfig 2 (fixed 32)
+    ∷ row QueueConfig 3 (fixed 32)
+    ∷ row NotifyConfig 0 (fixed 8)
+    ∷ row NotifyConfig 1 (fixed 8)
+    ∷ row NotifyConfig 2 (fixed 8)
+    ∷ row NotifyConfig 3 (fixed 8)
     ∷ []
 
 abbrev pub rowCount : ℕ
@@ -62,7 +67,7 @@ statusRow = 6
 
 -- what is read past the end of the table
 abbrev pub noRow : Row
-noRow = row 0 0 0
+noRow = row 0 0 (fixed 0)
 
 unfoldable pub kindOf : ℕ → ℕ
 kindOf i = getD rows i noRow .kind
@@ -70,8 +75,17 @@ kindOf i = getD rows i noRow .kind
 unfoldable pub selectorOf : ℕ → ℕ
 selectorOf i = getD rows i noRow .selector
 
-unfoldable pub sizeOf : ℕ → ℕ
-sizeOf i = getD rows i noRow .size
+unfoldable pub widthOf : ℕ → Width
+widthOf i = getD rows i noRow .width
+
+-- the bytes of a size, on a card with `w` words of features
+unfoldable pub sizeIn : ℕ → Width → ℕ
+sizeIn w (fixed n) = n
+sizeIn w features = 8 * w
+
+-- rules 5.2 and 5.21: the size of a row's value, on a card with `w` words of features
+unfoldable pub sizeOf : ℕ → ℕ → ℕ
+sizeOf w i = sizeIn w (widthOf i)
 
 -- the first of the `n` rows from `i` on with that type and selector number, or the one behind them
 unfoldable pub rowFrom : ℕ → ℕ → ℕ → ℕ → ℕ

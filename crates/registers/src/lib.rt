@@ -1,17 +1,20 @@
 // The register file of the device.
 use answer::Verdict;
 ghost use mathlib.Core.Path.{_≡_};
+ghost use mathlib.Core.Bool.{true};
 ghost use mathlib.Core.Option.{none, some};
-ghost use Prim.Native.Nat.{_+_, _-_, _<_, _≤_};
+ghost use Prim.Native.Nat.{_+_, _-_, _*_, _<_, _≤_};
 ghost use lib.ListN.{length, set as withElement};
 ghost use lib.Seq.{sets};
-ghost use lib.Dec.{ltb};
+ghost use lib.Dec.{ltb, eqb};
 ghost use Rattle.answer.specs.Tests.{pick};
-ghost use Rattle.answer.specs.Checks.{_unless_, passes as passesAll};
+ghost use Rattle.answer.specs.Codes.{Value, Mismatch};
+ghost use Rattle.answer.specs.Checks.{_unless_, passes};
 ghost use Rattle.answer.specs.declared.Verdict.the-variants.{Pass};
-ghost use Rattle.wire.specs.Field.{bytesOf};
+ghost use Rattle.wire.specs.Field.{field};
+ghost use Rattle.registers.specs.Cards.{wordsOf, isCard, wordRoom};
 ghost use Rattle.registers.specs.Rows.{CommonField, rowCount, kindOf, selectorOf, sizeOf, rowOf, listed, selectorWidth};
-ghost use Rattle.registers.specs.Values.{offered as offeredBits, onlyOffered, powerOfTwo, validSize, validQueue, contentChecks, valueChecks};
+ghost use Rattle.registers.specs.Values.{offeredWord, offered as offeredBytes, eachWord, within, powerOfTwo, validSize, validQueue, contentChecks};
 ghost use Rattle.registers.specs.File.{current as currentIn, blank as blankFile, reset as resetFile, soundValue, soundFile, registerValue, fileOf, registerOf, slotsOf};
 ghost use Rattle.registers.specs.Access.{selectorChecks, setChecks, readChecks, readValue};
 
@@ -32,6 +35,33 @@ pub struct Registers {
 
 // What the byte `set` of a register that is set holds.
 pub const SET: u8 = 1;
+
+// ---- the cards
+
+// The card that is emulated, by the bits that its features have: one word of 64, or two. Nothing else of it differs.
+pub enum Card {
+    Features64,
+    Features128,
+}
+
+// How many words of features a card has, which is how a kept state tells the cards apart.
+pub fn words_of(card: Card) -> u8
+    ensures { λ r. ⌜ r ≡ wordsOf card ⌝ }
+{
+    match card {
+        Card::Features64 => 1,
+        Card::Features128 => 2,
+    }
+}
+
+pub fn is_card(words: u8) -> bool
+    ensures { λ r. ⌜ r ≡ isCard words ⌝ }
+{
+    if words < 1 {
+        return false;
+    }
+    words <= 2
+}
 
 // ---- the table of registers
 
@@ -88,12 +118,13 @@ pub fn selector_of(row: usize) -> u64
     SELECTORS[row]
 }
 
-pub fn size_of(row: usize) -> usize
+// The size of a row's value on a card with so many words of features.
+pub fn size_of(words: u8, row: usize) -> usize
     requires { ⌜ row < rowCount ⌝ }
-    ensures { λ r. ⌜ r ≡ sizeOf row ⌝ }
+    ensures { λ r. ⌜ r ≡ sizeOf words row ⌝ }
 {
     if row < 2 {
-        return 8;
+        return 8 * words as usize;
     }
     if row < 4 {
         return 4;
@@ -171,12 +202,42 @@ pub fn selector_width(kind: u64) -> u64
 
 // ---- what a value must satisfy
 
-const OFFERED: u64 = 0x130000000;
-
-fn only_offered(features: u64) -> bool
-    ensures { λ r. ⌜ r ≡ onlyOffered features ⌝ }
+// What a card offers in each word of features.
+fn offered_word(i: usize) -> u64
+    ensures { λ r. ⌜ r ≡ offeredWord i ⌝ }
 {
-    features & OFFERED == features
+    match i {
+        0 => 0x130000000,
+        1 => 1,
+        _ => 0,
+    }
+}
+
+// Whether word `i` of features is what is offered there, or, where it need not be `exact`, has no bit beyond.
+fn is_offered(exact: bool, v: &[u8], i: usize) -> bool
+    requires { ⌜ (i < wordRoom) × (8 * i + 8 ≤ length (now v)) ⌝ }
+    ensures { λ r. ⌜ r ≡ pick exact eqb within (field (now (v .entry)) (8 * i) 8) (offeredWord i) ⌝ }
+{
+    let x = wire::get_u64(v, 8 * i);
+    let word = offered_word(i);
+    if exact {
+        return x == word;
+    }
+    x & word == x
+}
+
+// The same of each word that a card has. No loop: the loop over the registers in `sound` is unrolled only if it has none in it.
+fn are_offered(words: u8, exact: bool, v: &[u8]) -> bool
+    requires { ⌜ (isCard words ≡ true) × (8 * words ≤ length (now v)) ⌝ }
+    ensures { λ r. ⌜ r ≡ eachWord (pick exact eqb within) words (now (v .entry)) ⌝ }
+{
+    if !is_offered(exact, v, 0) {
+        return false;
+    }
+    if words < 2 {
+        return true;
+    }
+    is_offered(exact, v, 1)
 }
 
 // A power of two from 1 to 256: one of its binary digits is 1.
@@ -224,39 +285,40 @@ fn fail_unless(code: u32, good: bool) -> Verdict
     }
 }
 
-// The rule of a row's type, for a value of the row's size.
-fn check_content(row: usize, v: &[u8]) -> Verdict
-    requires { ⌜ (row < rowCount) × (length (now v) ≡ sizeOf row) ⌝ }
-    ensures { λ r. ⌜ r ≡ contentChecks (kindOf row) (now (v .entry)) ⌝ }
+// Whether a value of the row's size meets the rule of the row's type. Features are to be `exact` in row 0.
+fn is_good(words: u8, row: usize, exact: bool, v: &[u8]) -> bool
+    requires { ⌜ (isCard words ≡ true) × (row < rowCount) × (length (now v) ≡ sizeOf words row) × (exact ≡ eqb row 0) ⌝ }
+    ensures { λ r. ⌜ r ≡ passes (contentChecks words (kindOf row) (now (v .entry))) ⌝ }
 {
-    let kind = kind_of(row);
-    if kind == OFFERED_FEATURES {
-        return fail_unless(answer::MISMATCH, wire::get_u64(v, 0) == OFFERED);
+    if row < 2 {
+        return are_offered(words, exact, v);
     }
-    if kind == DRIVER_FEATURES {
-        return fail_unless(answer::MISMATCH, only_offered(wire::get_u64(v, 0)));
+    if row < 7 {
+        return true;
     }
-    if kind == QUEUE_CONFIG {
-        return fail_unless(answer::VALUE, is_valid_queue(v));
+    if row < 11 {
+        return is_valid_queue(v);
     }
-    if kind == NOTIFY_CONFIG {
-        return fail_unless(answer::VALUE, wire::get_u32(v, 4) == 0);
-    }
-    Verdict::Pass
+    wire::get_u32(v, 4) == 0
 }
 
-// A value for a row, which came before where `twice` is true.
-pub fn check_value(row: usize, twice: bool, v: &[u8]) -> Verdict
-    requires { ⌜ row < rowCount ⌝ }
-    ensures { λ r. ⌜ r ≡ valueChecks row twice (now (v .entry)) ⌝ }
+// What a value that breaks its row's rule is refused by.
+fn content_code(row: usize) -> u32
+    ensures { λ r. ⌜ r ≡ pick (ltb row 2) Mismatch Value ⌝ }
 {
-    if v.len() != size_of(row) {
-        return Verdict::Fail(answer::VALUE, 0);
+    if row < 2 {
+        answer::MISMATCH
+    } else {
+        answer::VALUE
     }
-    if twice {
-        return Verdict::Fail(answer::TWICE, 0);
-    }
-    check_content(row, v)
+}
+
+// The rule of a row's type, for a value of the row's size.
+pub fn check_content(words: u8, row: usize, v: &[u8]) -> Verdict
+    requires { ⌜ (isCard words ≡ true) × (row < rowCount) × (length (now v) ≡ sizeOf words row) ⌝ }
+    ensures { λ r. ⌜ r ≡ contentChecks words (kindOf row) (now (v .entry)) ⌝ }
+{
+    fail_unless(content_code(row), is_good(words, row, row == 0, v))
 }
 
 // ---- the register file
@@ -292,24 +354,26 @@ pub fn holding(v: &[u8]) -> Register
         2 => holding_bytes(v, 2),
         4 => holding_bytes(v, 4),
         8 => holding_bytes(v, 8),
+        16 => holding_bytes(v, 16),
         32 => holding_bytes(v, 32),
         _ => holding_bytes(v, n),
     }
 }
 
-// What the row of offered features shows.
+// What the row of offered features shows: the same register for every card, of which each has as many words as its value has.
 pub fn offered() -> Register
-    ensures { λ r. ⌜ r ≡ registerOf (some (bytesOf 8 offeredBits)) ⌝ }
+    ensures { λ r. ⌜ r ≡ registerOf (some (offeredBytes wordRoom)) ⌝ }
 {
     let mut bytes = [0u8; 32];
-    wire::put_u64(&mut bytes, 0, OFFERED);
+    wire::put_u64(&mut bytes, 0, offered_word(0));
+    wire::put_u64(&mut bytes, 8, offered_word(1));
     Register { set: SET, bytes }
 }
 
 // The register that a row shows.
-pub fn current(registers: Registers, row: usize) -> Register
-    requires { ⌜ row < rowCount ⌝ }
-    ensures { λ r. ⌜ (registerValue row r ≡ currentIn (fileOf registers) row) × (length (r .bytes) ≡ 32) ⌝ }
+pub fn current(words: u8, registers: Registers, row: usize) -> Register
+    requires { ⌜ (words ≤ wordRoom) × (row < rowCount) ⌝ }
+    ensures { λ r. ⌜ (registerValue words row r ≡ currentIn words (fileOf words registers) row) × (length (r .bytes) ≡ 32) ⌝ }
 {
     if row == 0 {
         return offered();
@@ -319,41 +383,38 @@ pub fn current(registers: Registers, row: usize) -> Register
     slots[i]
 }
 
-fn passes(verdict: Verdict) -> bool
-    ensures { λ r. ⌜ r ≡ passesAll verdict ⌝ }
-{
-    match verdict {
-        Verdict::Pass => true,
-        Verdict::Fail(_, _) => false,
-    }
-}
-
-// Whether a register is not set, or holds a value that setting accepts.
-fn is_sound(row: usize, r: Register) -> bool
-    requires { ⌜ (row < rowCount) × (length (r .bytes) ≡ 32) ⌝ }
-    ensures { λ x. ⌜ x ≡ soundValue row (registerValue row r) ⌝ }
+// Whether a register that is kept is not set, or holds a value that setting accepts.
+fn is_sound(words: u8, row: usize, r: Register) -> bool
+    requires { ⌜ (isCard words ≡ true) × (0 < row) × (row < rowCount) × (length (r .bytes) ≡ 32) ⌝ }
+    ensures { λ x. ⌜ x ≡ soundValue words row (registerValue words row r) ⌝ }
 {
     if r.set != SET {
         return true;
     }
-    let size = size_of(row);
+    let size = size_of(words, row);
     let bytes = r.bytes;
-    passes(check_value(row, false, &bytes[..size]))
+    is_good(words, row, false, &bytes[..size])
 }
 
-// Whether status is set, and every set register holds a value that setting accepts.
-pub fn sound(registers: Registers) -> bool
-    ensures { λ r. ⌜ r ≡ soundFile (fileOf registers) ⌝ }
+// Whether status is set, and every set register holds a value that setting accepts. Driver features, which alone depend on the card, are
+// judged before the loop: the compiler would make two loops of one that asks for the card.
+pub fn sound(words: u8, registers: Registers) -> bool
+    requires { ⌜ isCard words ≡ true ⌝ }
+    ensures { λ r. ⌜ r ≡ soundFile words (fileOf words registers) ⌝ }
 {
     let slots = registers.slots;
     let status = slots[STATUS_ROW - 1];
     if status.set != SET {
         return false;
     }
-    let mut i: usize = 0;
+    let features = slots[0];
+    if !is_sound(words, 1, features) {
+        return false;
+    }
+    let mut i: usize = 1;
     while i < SLOTS {
         let r = slots[i];
-        if !is_sound(i + 1, r) {
+        if !is_sound(words, i + 1, r) {
             return false;
         }
         i += 1;
@@ -395,8 +456,9 @@ fn check_selector(kind: u64, selector: u64) -> Verdict
     fail_unless(answer::INDEX, row_of(kind, selector) < ROWS)
 }
 
-pub fn check_set(kind: u64, selector: u64, v: &[u8]) -> Verdict
-    ensures { λ r. ⌜ r ≡ setChecks kind selector (now (v .entry)) ⌝ }
+pub fn check_set(words: u8, kind: u64, selector: u64, v: &[u8]) -> Verdict
+    requires { ⌜ isCard words ≡ true ⌝ }
+    ensures { λ r. ⌜ r ≡ setChecks words kind selector (now (v .entry)) ⌝ }
 {
     if !is_listed(kind) {
         return Verdict::Fail(answer::UNKNOWN_PART, 0);
@@ -407,13 +469,19 @@ pub fn check_set(kind: u64, selector: u64, v: &[u8]) -> Verdict
     let verdict = check_selector(kind, selector);
     match verdict {
         Verdict::Fail(code, place) => Verdict::Fail(code, place),
-        Verdict::Pass => check_value(row_of(kind, selector), false, v),
+        Verdict::Pass => {
+            let row = row_of(kind, selector);
+            if v.len() != size_of(words, row) {
+                return Verdict::Fail(answer::VALUE, 0);
+            }
+            check_content(words, row, v)
+        }
     }
 }
 
-// The registers with one set to a value that `check_set` passes.
+// The registers with one set to a value. Whatever `check_set` passes names a register that is kept, and fits into it.
 pub fn set(registers: Registers, kind: u64, selector: u64, v: &[u8]) -> Registers
-    requires { ⌜ setChecks kind selector (now v) ≡ Pass ⌝ }
+    requires { ⌜ (0 < rowOf kind selector) × (rowOf kind selector < rowCount) × (length (now v) ≤ 32) ⌝ }
     ensures { λ r. ⌜ r .slots ≡ withElement (registers .slots) (rowOf kind selector - 1) (registerOf (some (now (v .entry)))) ⌝ }
 {
     let i = row_of(kind, selector) - 1;
@@ -424,8 +492,9 @@ pub fn set(registers: Registers, kind: u64, selector: u64, v: &[u8]) -> Register
 }
 
 // Reading into a buffer of `room` bytes.
-pub fn check_read(registers: Registers, kind: u64, selector: u64, room: usize) -> Verdict
-    ensures { λ r. ⌜ r ≡ readChecks (fileOf registers) kind selector room ⌝ }
+pub fn check_read(words: u8, registers: Registers, kind: u64, selector: u64, room: usize) -> Verdict
+    requires { ⌜ words ≤ wordRoom ⌝ }
+    ensures { λ r. ⌜ r ≡ readChecks words (fileOf words registers) kind selector room ⌝ }
 {
     if !is_listed(kind) {
         return Verdict::Fail(answer::UNKNOWN_PART, 0);
@@ -435,11 +504,11 @@ pub fn check_read(registers: Registers, kind: u64, selector: u64, room: usize) -
         Verdict::Fail(code, place) => Verdict::Fail(code, place),
         Verdict::Pass => {
             let row = row_of(kind, selector);
-            let r = current(registers, row);
+            let r = current(words, registers, row);
             if r.set != SET {
                 return Verdict::Fail(answer::UNSET, 0);
             }
-            if room < size_of(row) {
+            if room < size_of(words, row) {
                 return Verdict::Fail(answer::NO_SPACE, 0);
             }
             Verdict::Pass
@@ -448,13 +517,13 @@ pub fn check_read(registers: Registers, kind: u64, selector: u64, room: usize) -
 }
 
 // Puts the value of a register for which `check_read` passes to the start of the buffer, and reports its length.
-pub fn read(registers: Registers, kind: u64, selector: u64, buf: &mut [u8]) -> usize
-    requires { ⌜ readChecks (fileOf registers) kind selector (length (now buf)) ≡ Pass ⌝ }
-    ensures { λ r. ⌜ (now (buf .exit) ≡ sets (now (buf .entry)) 0 (readValue (fileOf registers) kind selector)) × (r ≡ length (readValue (fileOf registers) kind selector)) ⌝ }
+pub fn read(words: u8, registers: Registers, kind: u64, selector: u64, buf: &mut [u8]) -> usize
+    requires { ⌜ (words ≤ wordRoom) × (readChecks words (fileOf words registers) kind selector (length (now buf)) ≡ Pass) ⌝ }
+    ensures { λ r. ⌜ (now (buf .exit) ≡ sets (now (buf .entry)) 0 (readValue words (fileOf words registers) kind selector)) × (r ≡ length (readValue words (fileOf words registers) kind selector)) ⌝ }
 {
     let row = row_of(kind, selector);
-    let r = current(registers, row);
-    let size = size_of(row);
+    let r = current(words, registers, row);
+    let size = size_of(words, row);
     let bytes = r.bytes;
     wire::copy(buf, 0, &bytes, 0, size);
     size

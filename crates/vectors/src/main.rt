@@ -6,6 +6,7 @@ use answer::Answer;
 use emulator::State;
 use iommu::Mapping;
 use iommu::Table;
+use registers::Card;
 
 const OUT: i32 = 1;
 
@@ -86,6 +87,7 @@ fn nothing() -> State {
         },
         registers: registers::reset(),
         running: 0,
+        words: 0,
     }
 }
 
@@ -131,7 +133,7 @@ fn load(state: State, stream: &[u8]) -> State {
 }
 
 fn power_on(state: State, bytes: &[u8], shadow: &mut [u8]) -> State {
-    let r = emulator::power_on(state, bytes, shadow);
+    let r = emulator::power_on(state, Card::Features64, bytes, shadow);
     let answer = r.answer;
     print(answer, b"");
     r.state

@@ -2,12 +2,12 @@
 
 use std::fmt;
 
-use glintbasket::State;
+use glintbasket::{Card, State};
 
 /// A call but for its buffer.
 #[derive(Clone, Copy, Debug, PartialEq, Eq)]
 pub enum Call {
-    FreshStart,
+    FreshStart { card: Card },
     Request { target: u32, number: u32 },
     LookUp { device: u64 },
     CardRead { device: u64 },

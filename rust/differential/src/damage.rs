@@ -13,7 +13,7 @@ const MEMORY_LIMIT: u64 = 1 << 30;
 
 /// The causes: what rule 1.12 rules out.
 #[rustfmt::skip]
-pub const CAUSES: [&str; 20] = [
+pub const CAUSES: [&str; 21] = [
     "more than 64 mappings",
     "mappings out of order",
     "mappings that overlap",
@@ -33,6 +33,7 @@ pub const CAUSES: [&str; 20] = [
     "driver features not offered",
     "queue value",
     "enabled queue of size 0",
+    "no such card",
     "notify value",
 ];
 
@@ -154,6 +155,7 @@ pub fn damaged(sound: &State, random: &mut Random) -> (usize, State) {
             }
             register.bytes.copy_from_slice(&value);
         }
+        "no such card" => state.words = random.pick(&[0, 3, 4, 128, 255]),
         "enabled queue of size 0" => {
             let slot = 6 + random.below(4) as usize;
             let register = &mut state.registers.slots[slot];

@@ -13,7 +13,7 @@ const TOP: u64 = 1 << 48;
 const LONGEST: usize = 65_536;
 
 #[rustfmt::skip]
-pub const EVENTS: [&str; 30] = [
+pub const EVENTS: [&str; 34] = [
     "card read of 65,536 bytes accepted",
     "card write of 65,536 bytes accepted",
     "host store of 65,536 bytes accepted",
@@ -44,11 +44,22 @@ pub const EVENTS: [&str; 30] = [
     "enabled queue of size 0 gives 22 when set",
     "load that leaves a queue of size 0",
     "save of a queue of size 0",
+    "fresh start of the second card",
+    "save of the second card",
+    "load into the second card",
+    "load of the other card's offered features gives 22",
 ];
 
-#[derive(Default)]
 pub struct Events {
     counts: [u64; EVENTS.len()],
+}
+
+impl Default for Events {
+    fn default() -> Events {
+        Events {
+            counts: [0; EVENTS.len()],
+        }
+    }
 }
 
 /// What has to be known from before the call.
@@ -202,12 +213,23 @@ impl Events {
                 self.saw(18, done && length == LONGEST);
                 self.saw(19, done && trio.state.registers.len() < before.registers);
                 self.saw(28, done && has_empty_queue(trio));
+                self.saw(32, done && trio.state.words == 2);
+                // A stream that begins with them.
+                let other = 8 * (3 - trio.state.words);
+                let begins = length >= 16
+                    && made.buffer[..4] == [0, 1, 1, 0]
+                    && number_at(&made.buffer, 4, 8) == 0
+                    && number_at(&made.buffer, 12, 4) == other;
+                let at_start = *answer == Answer::Refused { code: 22, place: 0 };
+                self.saw(33, begins && at_start);
             }
             Call::SaveParts => {
                 self.saw(20, *answer == Answer::Done(length as u64));
                 self.saw(24, done && before.running_above);
                 self.saw(29, done && has_empty_queue(trio));
+                self.saw(31, done && trio.state.words == 2);
             }
+            Call::FreshStart { .. } => self.saw(30, done && trio.state.words == 2),
             Call::SetRegister { kind: 0x104, .. } if length == 32 => {
                 let empty = made.buffer[..2] == [0, 0];
                 self.saw(26, done && empty);

@@ -2,7 +2,7 @@
 
 use glint_reference::bench::PAGE;
 use glintbasket::raw::SLOTS;
-use glintbasket::{DeviceAddress, Mapping, MemoryAddress, Register, Rights, State, MAPPINGS};
+use glintbasket::{Card, DeviceAddress, Mapping, MemoryAddress, Register, Rights, State, MAPPINGS};
 
 use crate::call::{Call, Made, Step};
 use crate::damage::{self, Damages};
@@ -57,7 +57,11 @@ impl Generator {
             return step;
         }
         match self.steps {
-            1 => return self.lend(Call::FreshStart, Vec::new(), (self.length, self.length)),
+            1 => {
+                let card = self.card();
+                let lent = (self.length, self.length);
+                return self.lend(Call::FreshStart { card }, Vec::new(), lent);
+            }
             2 if self.random.below(3) > 0 => return self.install(trio),
             3 if self.random.below(2) > 0 => return self.store_all(trio),
             _ => {}
@@ -98,7 +102,9 @@ impl Generator {
             lent: (noted, noted),
             given: None,
         };
-        if self.random.one_in(40) || (call == Call::FreshStart && self.random.one_in(2)) {
+        if self.random.one_in(40)
+            || (matches!(call, Call::FreshStart { .. }) && self.random.one_in(2))
+        {
             made.lent = self.wrong_lengths(noted, trio.capacity());
         }
         match self.random.below(100) {
@@ -168,6 +174,7 @@ impl Generator {
         let mut state = State {
             memory_length: trio.state.noted_length.min(trio.capacity() as u64),
             running: u8::from(random.one_in(8)),
+            words: random.pick(&[1, 2]),
             ..State::default()
         };
         let pages = state.memory_length / PAGE;
@@ -200,12 +207,12 @@ impl Generator {
         }
         state.table.count = count as usize;
         let all = random.one_in(4);
-        for ((kind, _, length), register) in SLOTS.iter().zip(&mut state.registers.slots) {
+        for (slot, (kind, _, _)) in SLOTS.iter().enumerate() {
             if all || *kind == 0x103 || random.one_in(3) {
-                let value = streams::good_value(*kind, *length, random);
+                let value = streams::good_value(*kind, state.value_size(slot), random);
                 let mut bytes = [0; 32];
-                bytes[..*length].copy_from_slice(&value);
-                *register = Register { set: 1, bytes };
+                bytes[..value.len()].copy_from_slice(&value);
+                state.registers.slots[slot] = Register { set: 1, bytes };
             }
         }
         garble(&mut state, random);
@@ -223,7 +230,7 @@ impl Generator {
 
     fn call(&mut self, trio: &Trio) -> (Call, Vec<u8>) {
         match self.random.below(1000) {
-            0..=4 => (Call::FreshStart, Vec::new()),
+            0..=4 => (Call::FreshStart { card: self.card() }, Vec::new()),
             5..=309 => self.request(trio),
             310..=359 => {
                 let device = self.device(trio);
@@ -250,13 +257,16 @@ impl Generator {
                 let length = self.forget_length(trio, address);
                 (Call::Forget { address, length }, Vec::new())
             }
-            790..=849 => self.set_register(),
-            850..=889 => self.read_register(),
-            890..=939 => (Call::LoadParts, streams::stream(&mut self.random)),
+            790..=849 => self.set_register(trio),
+            850..=889 => self.read_register(trio),
+            890..=939 => (
+                Call::LoadParts,
+                streams::stream(card_words(trio), &mut self.random),
+            ),
             940..=959 => (Call::SaveParts, self.save_buffer(trio)),
             960..=974 => (Call::Stop, Vec::new()),
             975..=979 => (Call::Start, Vec::new()),
-            _ => self.walk(),
+            _ => self.walk(trio),
         }
     }
 
@@ -539,14 +549,22 @@ impl Generator {
 
     // ---- registers and parts
 
+    fn card(&mut self) -> Card {
+        self.random.pick(&[Card::Features64, Card::Features128])
+    }
+
     /// Mostly a register that there is; else a number beside one.
-    fn register(&mut self) -> (u64, u64, usize) {
+    fn register(&mut self, trio: &Trio) -> (u64, u64, usize) {
         let random = &mut self.random;
-        let (mut kind, mut selector, length) = match random.below(16) {
+        let (mut kind, mut selector, mut length) = match random.below(16) {
             14 => (0x100, 0, 8),
             15 => random.pick(&SLOTS),
             slot => SLOTS[slot as usize],
         };
+        if matches!(kind, 0x100 | 0x101) {
+            let words = card_words(trio);
+            length = 8 * if random.one_in(8) { 3 - words } else { words } as usize;
+        }
         match random.below(12) {
             0 => {
                 kind = random.pick(&[
@@ -586,14 +604,14 @@ impl Generator {
         (kind, selector, length)
     }
 
-    fn set_register(&mut self) -> (Call, Vec<u8>) {
-        let (kind, selector, length) = self.register();
+    fn set_register(&mut self, trio: &Trio) -> (Call, Vec<u8>) {
+        let (kind, selector, length) = self.register(trio);
         let value = streams::value(kind, length, &mut self.random);
         (Call::SetRegister { kind, selector }, value)
     }
 
-    fn read_register(&mut self) -> (Call, Vec<u8>) {
-        let (kind, selector, length) = self.register();
+    fn read_register(&mut self, trio: &Trio) -> (Call, Vec<u8>) {
+        let (kind, selector, length) = self.register(trio);
         let room = match self.random.below(6) {
             0 => length.saturating_sub(1),
             1 => 0,
@@ -605,7 +623,7 @@ impl Generator {
 
     fn save_buffer(&mut self, trio: &Trio) -> Vec<u8> {
         let values: usize = trio.state.registers.values().map(|v| 16 + v.len()).sum();
-        let exact = 24 + values;
+        let exact = 16 + 8 * card_words(trio) as usize + values;
         let room = match self.random.below(6) {
             0 => exact - 1,
             1..=2 => exact,
@@ -616,8 +634,8 @@ impl Generator {
         self.garbage(room)
     }
 
-    fn walk(&mut self) -> (Call, Vec<u8>) {
-        let stream = streams::stream(&mut self.random);
+    fn walk(&mut self, trio: &Trio) -> (Call, Vec<u8>) {
+        let stream = streams::stream(card_words(trio), &mut self.random);
         let length = stream.len() as u64;
         // A step's place is where a part begins, mostly.
         let mut place = 0;
@@ -702,5 +720,14 @@ mod tests {
         };
         assert_eq!(list(7), list(7));
         assert_ne!(list(7), list(8));
+    }
+}
+
+/// The words of the features of the card that is kept; of the first card where there is none.
+fn card_words(trio: &Trio) -> u64 {
+    if trio.state.words == 2 {
+        2
+    } else {
+        1
     }
 }

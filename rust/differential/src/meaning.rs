@@ -14,6 +14,15 @@ fn mapping(m: &glintbasket::Mapping) -> Mapping {
     }
 }
 
+/// How many bytes of a slot are its value; no card has more words than a register has room for.
+pub fn value_size(words: u8, slot: usize) -> usize {
+    let state = State {
+        words,
+        ..State::default()
+    };
+    state.value_size(slot).min(32)
+}
+
 /// Entries past the count, values of registers that are not set and bytes behind a value mean
 /// nothing. A count above 64 has no entries to show: it means one mapping too many.
 pub fn meaning(state: &State) -> bench::State {
@@ -23,15 +32,18 @@ pub fn meaning(state: &State) -> bench::State {
         mappings.push(mapping(&state.table.entries[MAPPINGS - 1]));
     }
     let mut registers = Registers::new();
-    for ((kind, selector, length), register) in SLOTS.iter().zip(&state.registers.slots) {
+    for (slot, register) in state.registers.slots.iter().enumerate() {
         if register.is_set() {
-            registers.insert((*kind, *selector), register.bytes[..*length].to_vec());
+            let (kind, selector, _) = SLOTS[slot];
+            let value = register.bytes[..value_size(state.words, slot)].to_vec();
+            registers.insert((kind, selector), value);
         }
     }
     bench::State {
         noted_length: state.memory_length,
         mappings,
         running: state.is_running(),
+        words: state.words.into(),
         registers,
     }
 }
@@ -45,18 +57,22 @@ pub fn means(state: &State, other: &bench::State) -> bool {
     let registers = state.registers.slots.iter().filter(|r| r.is_set()).count();
     state.memory_length == other.noted_length
         && state.is_running() == other.running
+        && u64::from(state.words) == other.words
         && table.count == other.mappings.len()
         && table.entries[..table.count]
             .iter()
             .zip(&other.mappings)
             .all(|(m, o)| mapping(m) == *o)
         && registers == other.registers.len()
-        && SLOTS
+        && state
+            .registers
+            .slots
             .iter()
-            .zip(&state.registers.slots)
+            .enumerate()
             .filter(|(_, register)| register.is_set())
-            .all(|((kind, selector, length), register)| {
-                other.registers.get(&(*kind, *selector)).map(Vec::as_slice)
-                    == Some(&register.bytes[..*length])
+            .all(|(slot, register)| {
+                let (kind, selector, _) = SLOTS[slot];
+                other.registers.get(&(kind, selector)).map(Vec::as_slice)
+                    == Some(&register.bytes[..value_size(state.words, slot)])
             })
 }

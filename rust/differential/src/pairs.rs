@@ -50,7 +50,7 @@ pub struct Pairs {
 
 fn row_of(call: &Call) -> usize {
     let name = match *call {
-        Call::FreshStart => "fresh start",
+        Call::FreshStart { .. } => "fresh start",
         Call::Request {
             target: 0, number, ..
         } => match number {

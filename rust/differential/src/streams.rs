@@ -4,14 +4,23 @@ use glintbasket::raw::SLOTS;
 
 use crate::random::Random;
 
-const OFFERED: u64 = 0x1_3000_0000;
+/// The features that the cards offer; the first card has the first word.
+const OFFERED: [u64; 2] = [0x1_3000_0000, 1];
 
-/// A value that the register's type accepts.
+/// A value that the register's type accepts; of features, the length says whose.
 pub fn good_value(kind: u64, length: usize, random: &mut Random) -> Vec<u8> {
     let mut value = random.bytes(length);
     match kind {
-        0x100 => value.copy_from_slice(&OFFERED.to_le_bytes()),
-        0x101 => value.copy_from_slice(&(random.number() & OFFERED).to_le_bytes()),
+        0x100 | 0x101 => {
+            for (word, offered) in value.chunks_mut(8).zip(OFFERED) {
+                let bits = if kind == 0x100 {
+                    u64::MAX
+                } else {
+                    random.number()
+                };
+                word.copy_from_slice(&(bits & offered).to_le_bytes());
+            }
+        }
         0x104 => {
             // Size 0 only where the queue is not enabled.
             let available = !random.one_in(6);
@@ -31,7 +40,10 @@ pub fn good_value(kind: u64, length: usize, random: &mut Random) -> Vec<u8> {
 
 /// A value for a register of this length: mostly a good one.
 pub fn value(kind: u64, length: usize, random: &mut Random) -> Vec<u8> {
-    let fits = matches!((kind, length), (0x100 | 0x101 | 0x105, 8) | (0x104, 32));
+    let fits = matches!(
+        (kind, length),
+        (0x100 | 0x101 | 0x105, 8) | (0x100 | 0x101, 16) | (0x104, 32)
+    );
     let mut value = if fits {
         good_value(kind, length, random)
     } else {
@@ -53,8 +65,8 @@ pub fn value(kind: u64, length: usize, random: &mut Random) -> Vec<u8> {
 /// Breaks one rule of the type, or goes to the edge of one.
 pub fn spoil_value(kind: u64, value: &mut [u8], random: &mut Random) {
     match (kind, value.len()) {
-        (0x100 | 0x101, 8) => {
-            let bit = random.below(64);
+        (0x100 | 0x101, 8 | 16) => {
+            let bit = random.below(8 * value.len() as u64);
             value[bit as usize / 8] ^= 1 << (bit % 8);
         }
         (0x104, 32) => match random.below(8) {
@@ -110,14 +122,17 @@ impl Part {
     }
 }
 
-/// A stream: parts in any order, mostly with a status part, and with up to three faults.
-pub fn stream(random: &mut Random) -> Vec<u8> {
+/// A stream for a card, or now and then for the other one: parts in any order, mostly with a status
+/// part, and with up to three faults.
+pub fn stream(words: u64, random: &mut Random) -> Vec<u8> {
     let mut parts = Vec::new();
+    let words = if random.one_in(8) { 3 - words } else { words } as usize;
     if random.one_in(2) {
-        parts.push(Part::new(0x100, 0, good_value(0x100, 8, random)));
+        parts.push(Part::new(0x100, 0, good_value(0x100, 8 * words, random)));
     }
     let often = random.pick(&[2, 3, 8]);
     for (kind, selector, length) in SLOTS {
+        let length = if kind == 0x101 { 8 * words } else { length };
         if kind == 0x103 || random.one_in(often) {
             let value = good_value(kind, length, random);
             parts.push(Part::new(kind as u16, selector, value));

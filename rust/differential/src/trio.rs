@@ -3,11 +3,10 @@
 use std::panic::{catch_unwind, AssertUnwindSafe};
 
 use glint_reference::bench;
-use glintbasket::raw::SLOTS;
 use glintbasket::State;
 
 use crate::call::{Answer, Call, Made, Step};
-use crate::meaning::{meaning, means};
+use crate::meaning::{meaning, means, value_size};
 use crate::programs::{emulate, refer};
 use crate::random::Random;
 
@@ -215,7 +214,7 @@ impl Trio {
                 self.emulator.state = left;
                 self.twin.state = twin_left;
             }
-            Some(state) if *call == Call::FreshStart && !refused => {
+            Some(state) if matches!(call, Call::FreshStart { .. }) && !refused => {
                 self.state = state;
                 self.emulator.state = left;
                 self.twin.state = twin_left;
@@ -287,11 +286,16 @@ pub fn garble(state: &mut State, random: &mut Random) {
         m.size = random.number();
         m.rights.0 = random.number() as u32;
     }
-    for ((_, _, length), register) in SLOTS.iter().zip(&mut state.registers.slots) {
+    let words = state.words;
+    for (slot, register) in state.registers.slots.iter_mut().enumerate() {
         if !register.is_set() {
             register.set = no(random);
         }
-        let used = if register.is_set() { *length } else { 0 };
+        let used = if register.is_set() {
+            value_size(words, slot)
+        } else {
+            0
+        };
         random.fill(&mut register.bytes[used..]);
     }
     if !state.is_running() {

@@ -4,13 +4,13 @@
 use glint_differential::call::{Answer, Call};
 use glint_differential::meaning::meaning;
 use glint_differential::programs::{emulate, refer};
-use glintbasket::raw;
+use glintbasket::{raw, Card};
 use glintbasket::{DeviceAddress, Mapping, MemoryAddress, Rights, State};
 
 const LIMIT: usize = 1 << 30;
 
 fn state(length: usize) -> State {
-    let mut state = raw::power_on(&State::default(), &[], &mut []).state;
+    let mut state = raw::power_on(&State::default(), Card::Features64, &[], &mut []).state;
     state.memory_length = length as u64;
     state.table.count = 1;
     state.table.entries[0] = Mapping {
@@ -53,7 +53,9 @@ fn memory_may_have_2_to_the_30_bytes_and_not_one_more() {
         let (memory, marks) = (&mut memory[..LIMIT], &mut marks[..LIMIT]);
         assert_ne!(both(call, LIMIT, memory, marks), refused, "{call:?}");
     }
-    let start = Call::FreshStart;
+    let start = Call::FreshStart {
+        card: Card::Features64,
+    };
     assert_eq!(both(start, LIMIT, &mut memory, &mut marks), refused);
     let look_up = Call::LookUp { device: 4095 };
     let found = Answer::Found {

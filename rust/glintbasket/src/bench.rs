@@ -1,6 +1,7 @@
 //! The bench: memory, marks and state, and every call on them.
 
 use crate::address::{DeviceAddress, MemoryAddress, Rights};
+use crate::card::Card;
 use crate::error::Result;
 use crate::raw::{self, Kept, Mapping, State};
 use std::fmt;
@@ -73,24 +74,34 @@ impl OwnedBench {
     ///
     /// Refused: `BadBench` for more than 2^30 bytes.
     pub fn with_memory(memory: Vec<u8>) -> Result<OwnedBench> {
+        OwnedBench::with_memory_and_card(memory, Card::default())
+    }
+
+    /// The same of any card.
+    pub fn with_memory_and_card(memory: Vec<u8>, card: Card) -> Result<OwnedBench> {
         let marks = vec![0; memory.len()];
         let mut bench = Bench {
             memory: Bytes::Owned(memory),
             marks: Bytes::Owned(marks),
             state: State::default(),
         };
-        bench.power_on()?;
+        bench.power_on_as(card)?;
         Ok(bench)
     }
 }
 
 impl<'m> Bench<'m> {
-    /// A fresh start on lent memory and marks. Memory bytes stay as they are; all marks become 0.
+    /// A fresh start of the card with 64 feature bits, on lent memory and marks. Memory bytes stay as they are; all marks become 0.
     ///
     /// Refused: `BadBench` if the two differ in length or exceed 2^30 bytes.
     pub fn new(memory: &'m mut [u8], marks: &'m mut [u8]) -> Result<Bench<'m>> {
+        Bench::with_card(memory, marks, Card::default())
+    }
+
+    /// The same of any card.
+    pub fn with_card(memory: &'m mut [u8], marks: &'m mut [u8], card: Card) -> Result<Bench<'m>> {
         let mut bench = Bench::resume(memory, marks, State::default());
-        bench.power_on()?;
+        bench.power_on_as(card)?;
         Ok(bench)
     }
 
@@ -136,17 +147,29 @@ impl<'m> Bench<'m> {
         self.state.is_running()
     }
 
+    /// Which card it is; none in a state that is not sound.
+    pub fn card(&self) -> Option<Card> {
+        self.state.card()
+    }
+
     /// Keeps the state that a call gave back, and gives its answer.
     fn keep(&mut self, kept: Kept) -> Result<u64> {
         self.state = kept.state;
         kept.outcome.answer()
     }
 
-    /// Fresh start: all marks 0, memory bytes untouched, no mapping, the device stopped and reset.
+    /// Fresh start of the card with 64 feature bits: all marks 0, memory bytes untouched, no mapping, the device stopped and reset.
     ///
     /// Refused: `BadBench`.
     pub fn power_on(&mut self) -> Result<()> {
-        let kept = raw::power_on(&self.state, &self.memory, &mut self.marks);
+        self.power_on_as(Card::default())
+    }
+
+    /// A fresh start of any card.
+    ///
+    /// Refused: `BadBench`.
+    pub fn power_on_as(&mut self, card: Card) -> Result<()> {
+        let kept = raw::power_on(&self.state, card, &self.memory, &mut self.marks);
         self.keep(kept).map(drop)
     }
 

@@ -78,6 +78,7 @@
 
 mod address;
 mod bench;
+mod card;
 mod error;
 mod parts;
 #[allow(unsafe_code)]
@@ -86,6 +87,7 @@ mod requests;
 
 pub use address::{DeviceAddress, MemoryAddress, Rights};
 pub use bench::{Bench, Location, OwnedBench, Target};
+pub use card::Card;
 pub use error::{Error, Refusal, Result};
 pub use parts::{Part, Parts, PART_HEADER};
 #[doc(inline)]
@@ -102,14 +104,14 @@ pub const MEMORY_LIMIT: usize = 1 << 30;
 pub const TRANSFER_LIMIT: usize = 65536;
 /// How many mappings a table holds.
 pub const MAPPINGS: usize = 64;
-/// Saving never writes more bytes.
-pub const SAVED_MAX: usize = 429;
+/// Saving never writes more bytes, whatever the card (see [`Card::saved_max`]).
+pub const SAVED_MAX: usize = Card::Features128.saved_max();
 
 /// The types of registers and of parts.
 pub mod kind {
-    /// 8 bytes; read only.
+    /// 8 bytes for each word of the card's features; read only.
     pub const OFFERED_FEATURES: u64 = 0x100;
-    /// 8 bytes, of offered bits.
+    /// As many, of offered bits.
     pub const DRIVER_FEATURES: u64 = 0x101;
     /// Selectors 0 and 8 have 4 bytes, 16 and 22 have 2.
     pub const COMMON_FIELD: u64 = 0x102;

@@ -1,12 +1,12 @@
 //! The raw calls: each argument arrives where it should, and each answer comes back.
 
 use glintbasket::raw::*;
-use glintbasket::{kind, DeviceAddress, MemoryAddress, Rights};
+use glintbasket::{kind, Card, DeviceAddress, MemoryAddress, Rights};
 
 const PAGE: usize = 4096;
 
 fn fresh(memory: &[u8], marks: &mut [u8]) -> State {
-    let kept = power_on(&State::default(), memory, marks);
+    let kept = power_on(&State::default(), Card::Features64, memory, marks);
     assert_eq!(kept.outcome, done(0));
     kept.state
 }

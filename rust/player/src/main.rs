@@ -114,7 +114,7 @@ fn file_bytes(path: &Path) -> Result<Vec<u8>, String> {
 }
 
 fn store(session: &Session, garbage: u8) -> Result<Store, Failure> {
-    Store::new(session.memory_size, garbage).map_err(|wrong| Failure::NotPlayed(message(wrong)))
+    Store::new(session, garbage).map_err(|wrong| Failure::NotPlayed(message(wrong)))
 }
 
 fn play_once(out: &mut impl Write, session: &Session) -> Result<bool, Failure> {

@@ -2,29 +2,32 @@
 
 use crate::answer::Answer;
 use crate::session::{output_size, Call, Pattern, Session, Step};
-use glintbasket::{Bench, DeviceAddress, Error, MemoryAddress, Parts, Refusal, Target};
+use glintbasket::{Bench, Card, DeviceAddress, Error, MemoryAddress, Parts, Refusal, Target};
 
 /// A bench's memory and marks, of which each byte starts as the session's garbage says.
 pub struct Store {
     memory: Vec<u8>,
     marks: Vec<u8>,
     garbage: u8,
+    card: Card,
 }
 
 impl Store {
     /// Fails where the machine has not as much memory as the session asks for.
-    pub fn new(size: usize, garbage: u8) -> Result<Store, String> {
+    pub fn new(session: &Session, garbage: u8) -> Result<Store, String> {
+        let size = session.memory_size;
         Ok(Store {
             memory: filled(size, garbage)?,
             marks: filled(size, 0)?,
             garbage,
+            card: session.card,
         })
     }
 
     /// A player on a fresh bench.
     pub fn player(&mut self) -> Player<'_> {
         let garbage = self.garbage;
-        let bench = Bench::new(&mut self.memory, &mut self.marks)
+        let bench = Bench::with_card(&mut self.memory, &mut self.marks, self.card)
             .expect("memory and marks of one length within the limit");
         Player { bench, garbage }
     }
@@ -111,7 +114,7 @@ impl<'m> Player<'m> {
         let done = Answer::Done(0);
         let bench = &mut self.bench;
         match call {
-            Call::PowerOn => bench.power_on().map(|()| done),
+            Call::PowerOn(card) => bench.power_on_as(*card).map(|()| done),
             Call::Request {
                 target,
                 number,

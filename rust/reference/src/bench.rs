@@ -1,7 +1,7 @@
 //! The bench: its limits, the mapping table, the kept state and when it is sound.
 
 use crate::answer::{refuse_if, Answer, Refusal};
-use crate::registers::{self, Registers};
+use crate::registers::{self, Registers, Words};
 
 pub const PAGE: u64 = 4_096;
 pub const MAPPING_LIMIT: usize = 64;
@@ -115,16 +115,24 @@ pub struct State {
     /// By rising device address.
     pub mappings: Vec<Mapping>,
     pub running: bool,
+    /// Which card it is: the words of its features.
+    pub words: Words,
     pub registers: Registers,
 }
 
 impl State {
-    /// What a fresh start on `length` bytes leaves.
+    /// What a fresh start of the first card on `length` bytes leaves.
     pub fn fresh(length: u64) -> State {
+        State::fresh_card(1, length)
+    }
+
+    /// What a fresh start of a card on `length` bytes leaves.
+    pub fn fresh_card(words: Words, length: u64) -> State {
         State {
             noted_length: length,
             mappings: Vec::new(),
             running: false,
+            words,
             registers: registers::reset(),
         }
     }
@@ -134,7 +142,7 @@ impl State {
             && self.mappings.len() <= MAPPING_LIMIT
             && self.mappings.iter().all(|m| m.sound(self.noted_length))
             && self.rising_and_apart()
-            && registers::sound(&self.registers)
+            && registers::sound(self.words, &self.registers)
     }
 
     /// Each mapping ends at or below the next one's start: adjoining is apart. As none is empty,
@@ -168,12 +176,17 @@ fn check_lengths(memory: usize, marks: usize) -> Answer<()> {
 }
 
 /// Looks at nothing of the state that it replaces, and leaves memory bytes untouched.
-pub fn fresh_start(state: &mut State, memory: &[u8], marks: &mut [u8]) -> Answer<u64> {
+pub fn fresh_start(
+    state: &mut State,
+    words: Words,
+    memory: &[u8],
+    marks: &mut [u8],
+) -> Answer<u64> {
     check_lengths(memory.len(), marks.len())?;
     for mark in marks.iter_mut() {
         *mark = FORGOTTEN;
     }
-    *state = State::fresh(memory.len() as u64);
+    *state = State::fresh_card(words, memory.len() as u64);
     Ok(0)
 }
 
@@ -301,7 +314,7 @@ mod tests {
         state.running = true;
         let memory = vec![7; 100];
         let mut marks = vec![255; 100];
-        assert_eq!(fresh_start(&mut state, &memory, &mut marks), Ok(0));
+        assert_eq!(fresh_start(&mut state, 1, &memory, &mut marks), Ok(0));
         assert_eq!(state, State::fresh(100));
         assert!(!state.running);
         assert_eq!(memory, vec![7; 100]);
@@ -312,7 +325,7 @@ mod tests {
     fn a_refused_fresh_start_changes_nothing() {
         let mut state = unsound();
         let mut marks = vec![1; 99];
-        assert_eq!(fresh_start(&mut state, &[7; 100], &mut marks), BAD_BENCH);
+        assert_eq!(fresh_start(&mut state, 1, &[7; 100], &mut marks), BAD_BENCH);
         assert_eq!(state, unsound());
         assert_eq!(marks, vec![1; 99]);
     }

@@ -8,7 +8,7 @@ use crate::answer::{refuse_if, Answer, Refusal};
 use crate::bench::{State, LENGTH_LIMIT};
 use crate::bytes::{number_at, put_number};
 use crate::registers::{
-    check_value, current, selector_width, value_length, Registers, OFFERED_FEATURES, STATUS,
+    check_value, current, selector_width, value_length, Registers, Words, OFFERED_FEATURES, STATUS,
 };
 
 pub const HEADER: usize = 16;
@@ -75,12 +75,12 @@ pub fn load_parts(state: &mut State, stream: &[u8]) -> Answer<u64> {
     state.check_sound()?;
     refuse_if(state.running, Refusal::Running)?;
     refuse_if(stream.len() > LENGTH_LIMIT, Refusal::TooLong)?;
-    state.registers = registers_in(stream)?;
+    state.registers = registers_in(state.words, stream)?;
     Ok(0)
 }
 
 /// The registers that a stream names, or its first fault.
-fn registers_in(stream: &[u8]) -> Answer<Registers> {
+fn registers_in(words: Words, stream: &[u8]) -> Answer<Registers> {
     let mut named = Registers::new();
     let mut seen = BTreeSet::new();
     let mut walker = Walker { stream, place: 0 };
@@ -90,7 +90,7 @@ fn registers_in(stream: &[u8]) -> Answer<Registers> {
         if placed(place, skipped(&part))? {
             continue;
         }
-        placed(place, check_listed(&part, &seen))?;
+        placed(place, check_listed(words, &part, &seen))?;
         seen.insert((part.kind, part.selector));
         // The offered features are constant: their part is checked, not kept.
         if part.kind != OFFERED_FEATURES {
@@ -118,16 +118,16 @@ fn skipped(part: &Part) -> Answer<bool> {
 }
 
 /// The checks on a part of a listed type: 19, 6, 22, 21, 22, 23.
-fn check_listed(part: &Part, seen: &BTreeSet<(u64, u64)>) -> Answer<()> {
+fn check_listed(words: Words, part: &Part, seen: &BTreeSet<(u64, u64)>) -> Answer<()> {
     let optional = part.flags & OPTIONAL != 0;
     refuse_if(
         optional != (part.kind == OFFERED_FEATURES) || selector_bytes_outside(part),
         Refusal::Header,
     )?;
-    let length = value_length(part.kind, part.selector).ok_or(Refusal::Index)?;
+    let length = value_length(words, part.kind, part.selector).ok_or(Refusal::Index)?;
     refuse_if(part.value.len() != length, Refusal::Value)?;
     refuse_if(seen.contains(&(part.kind, part.selector)), Refusal::Twice)?;
-    check_value(part.kind, part.value)
+    check_value(words, part.kind, part.value)
 }
 
 /// Whether a selector byte outside the type's field is not 0. Where no field is named, every
@@ -143,7 +143,7 @@ fn selector_bytes_outside(part: &Part) -> bool {
 pub fn save_parts(state: &State, buffer: &mut [u8]) -> Answer<u64> {
     state.check_sound()?;
     refuse_if(state.running, Refusal::Running)?;
-    let saved = saved(&state.registers);
+    let saved = saved(state.words, &state.registers);
     refuse_if(buffer.len() < saved.len(), Refusal::NoSpace)?;
     buffer[..saved.len()].copy_from_slice(&saved);
     Ok(saved.len() as u64)
@@ -168,10 +168,10 @@ const IN_ORDER: [(u64, u64); 15] = [
     (0x105, 3),
 ];
 
-fn saved(registers: &Registers) -> Vec<u8> {
+fn saved(words: Words, registers: &Registers) -> Vec<u8> {
     let mut stream = Vec::new();
     for (kind, selector) in IN_ORDER {
-        if let Some(value) = current(registers, kind, selector) {
+        if let Some(value) = current(words, registers, kind, selector) {
             let flags = if kind == OFFERED_FEATURES {
                 OPTIONAL
             } else {
@@ -231,7 +231,7 @@ mod tests {
                 0x101 => vec![0, 0, 0, 0x10, 0, 0, 0, 0],
                 0x104 => queue(),
                 0x105 => vec![selector as u8, 1, 2, 3, 0, 0, 0, 0],
-                _ => vec![0xee; value_length(kind, selector).unwrap()],
+                _ => vec![0xee; value_length(1, kind, selector).unwrap()],
             };
             assert_eq!(set_register(&mut state, kind, selector, &value), Ok(0));
         }
@@ -376,6 +376,38 @@ mod tests {
     }
 
     /// Rule 5.7: 0x100 may be there, flagged optional, with its one value, once.
+    #[test]
+    fn the_second_card_has_two_words_of_features() {
+        let mut state = State::fresh_card(2, 0);
+        let mut buffer = [0; 445];
+        assert_eq!(save_parts(&state, &mut buffer), Ok(49));
+        assert_eq!(
+            buffer[16..32],
+            [0, 0, 0, 0x30, 1, 0, 0, 0, 1, 0, 0, 0, 0, 0, 0, 0]
+        );
+        let saved = buffer[..49].to_vec();
+        assert_eq!(load_parts(&mut state, &saved), Ok(0));
+        assert_eq!(state, State::fresh_card(2, 0));
+        let mut first = State::fresh(0);
+        assert_eq!(load_parts(&mut first, &saved), refused(Refusal::Value, 0));
+        let mut features = [0; 16];
+        features[8] = 1;
+        assert_eq!(set_register(&mut state, 0x101, 0, &features), Ok(0));
+        features[8] = 2;
+        assert_eq!(
+            set_register(&mut state, 0x101, 0, &features),
+            refused(Refusal::Mismatch, 0)
+        );
+        assert_eq!(
+            set_register(&mut state, 0x101, 0, &features[..8]),
+            refused(Refusal::Value, 0)
+        );
+        assert_eq!(
+            set_register(&mut first, 0x101, 0, &[0; 16]),
+            refused(Refusal::Value, 0)
+        );
+    }
+
     #[test]
     fn offered_features_in_a_stream_are_checked_and_not_kept() {
         let offered = [0, 0, 0, 0x30, 1, 0, 0, 0];

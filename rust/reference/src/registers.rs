@@ -13,8 +13,25 @@ pub const STATUS: u64 = 0x103;
 pub const QUEUE: u64 = 0x104;
 pub const NOTIFY: u64 = 0x105;
 
-/// The constant value of the offered features.
-pub const OFFERED: u64 = 0x1_3000_0000;
+/// The features that the cards offer, word by word: the first card has the first word, the second
+/// card both.
+pub const OFFERED: [u64; 2] = [0x1_3000_0000, 1];
+
+/// How many words of features a card has. One that is neither 1 nor 2 is no card.
+pub type Words = u64;
+
+/// The features that a card offers.
+fn offered(words: Words) -> &'static [u64] {
+    &OFFERED[..words as usize]
+}
+
+/// The words of a features value.
+fn words_of(value: &[u8]) -> Vec<u64> {
+    value
+        .chunks(8)
+        .map(|word| number_at(word, 0, word.len()))
+        .collect()
+}
 
 /// The set registers, by type and selector number, with their values' bytes. A register that is
 /// not there is not set. The offered features are constant and never kept here.
@@ -27,16 +44,18 @@ pub fn reset() -> Registers {
     Registers::from([((STATUS, 0), vec![0])])
 }
 
-pub fn sound(registers: &Registers) -> bool {
-    registers.contains_key(&(STATUS, 0))
+pub fn sound(words: Words, registers: &Registers) -> bool {
+    (1..=2).contains(&words)
+        && registers.contains_key(&(STATUS, 0))
         && registers
             .iter()
-            .all(|(&(kind, selector), value)| acceptable(kind, selector, value))
+            .all(|(&(kind, selector), value)| acceptable(words, kind, selector, value))
 }
 
 /// Whether setting (for the offered features: loading) accepts this value of a register.
-fn acceptable(kind: u64, selector: u64, value: &[u8]) -> bool {
-    value_length(kind, selector) == Some(value.len()) && check_value(kind, value).is_ok()
+fn acceptable(words: Words, kind: u64, selector: u64, value: &[u8]) -> bool {
+    value_length(words, kind, selector) == Some(value.len())
+        && check_value(words, kind, value).is_ok()
 }
 
 /// How many low bytes of the 8 a listed type's selector number takes; 0 where none is used.
@@ -51,9 +70,9 @@ pub fn selector_width(kind: u64) -> Option<usize> {
 }
 
 /// The length of a register's value; nothing for a selector number that is not listed.
-pub fn value_length(kind: u64, selector: u64) -> Option<usize> {
+pub fn value_length(words: Words, kind: u64, selector: u64) -> Option<usize> {
     match (kind, selector) {
-        (OFFERED_FEATURES | DRIVER_FEATURES, 0) => Some(8),
+        (OFFERED_FEATURES | DRIVER_FEATURES, 0) => Some(8 * words as usize),
         (COMMON_FIELD, 0 | 8) => Some(4),
         (COMMON_FIELD, 16 | 22) => Some(2),
         (STATUS, 0) => Some(1),
@@ -64,10 +83,16 @@ pub fn value_length(kind: u64, selector: u64) -> Option<usize> {
 }
 
 /// What a value of the right length must satisfy: 22, then 23.
-pub fn check_value(kind: u64, value: &[u8]) -> Answer<()> {
+pub fn check_value(words: Words, kind: u64, value: &[u8]) -> Answer<()> {
     match kind {
-        OFFERED_FEATURES => refuse_if(number_at(value, 0, 8) != OFFERED, Refusal::Mismatch),
-        DRIVER_FEATURES => refuse_if(number_at(value, 0, 8) & !OFFERED != 0, Refusal::Mismatch),
+        OFFERED_FEATURES => refuse_if(words_of(value) != offered(words), Refusal::Mismatch),
+        DRIVER_FEATURES => refuse_if(
+            words_of(value)
+                .iter()
+                .zip(offered(words))
+                .any(|(word, offered)| word & !offered != 0),
+            Refusal::Mismatch,
+        ),
         QUEUE => refuse_if(!good_queue(value), Refusal::Value),
         NOTIFY => refuse_if(number_at(value, 4, 4) != 0, Refusal::Value),
         _ => Ok(()), // common fields and status: any
@@ -88,9 +113,14 @@ fn good_queue(value: &[u8]) -> bool {
 }
 
 /// A register's value now, if it is set. The offered features always are.
-pub fn current(registers: &Registers, kind: u64, selector: u64) -> Option<Vec<u8>> {
+pub fn current(words: Words, registers: &Registers, kind: u64, selector: u64) -> Option<Vec<u8>> {
     if kind == OFFERED_FEATURES {
-        return Some(OFFERED.to_le_bytes().to_vec());
+        return Some(
+            offered(words)
+                .iter()
+                .flat_map(|word| word.to_le_bytes())
+                .collect(),
+        );
     }
     registers.get(&(kind, selector)).cloned()
 }
@@ -101,9 +131,9 @@ pub fn set_register(state: &mut State, kind: u64, selector: u64, value: &[u8]) -
     let width = selector_width(kind).ok_or(Refusal::UnknownPart)?;
     refuse_if(kind == OFFERED_FEATURES, Refusal::ReadOnly)?;
     refuse_if(width == 0 && selector != 0, Refusal::Header)?;
-    let length = value_length(kind, selector).ok_or(Refusal::Index)?;
+    let length = value_length(state.words, kind, selector).ok_or(Refusal::Index)?;
     refuse_if(value.len() != length, Refusal::Value)?;
-    check_value(kind, value)?;
+    check_value(state.words, kind, value)?;
     state.registers.insert((kind, selector), value.to_vec());
     Ok(0)
 }
@@ -113,8 +143,11 @@ pub fn read_register(state: &State, kind: u64, selector: u64, buffer: &mut [u8])
     state.check_sound()?;
     let width = selector_width(kind).ok_or(Refusal::UnknownPart)?;
     refuse_if(width == 0 && selector != 0, Refusal::Header)?;
-    refuse_if(value_length(kind, selector).is_none(), Refusal::Index)?;
-    let value = current(&state.registers, kind, selector).ok_or(Refusal::Unset)?;
+    refuse_if(
+        value_length(state.words, kind, selector).is_none(),
+        Refusal::Index,
+    )?;
+    let value = current(state.words, &state.registers, kind, selector).ok_or(Refusal::Unset)?;
     refuse_if(buffer.len() < value.len(), Refusal::NoSpace)?;
     buffer[..value.len()].copy_from_slice(&value);
     Ok(value.len() as u64)
@@ -217,10 +250,10 @@ mod tests {
             let mut state = fresh();
             set_register(&mut state, DRIVER_FEATURES, 0, &features.to_le_bytes())
         };
-        for features in [0, 0x1000_0000, 0x2000_0000, 0x1_0000_0000, OFFERED] {
+        for features in [0, 0x1000_0000, 0x2000_0000, 0x1_0000_0000, OFFERED[0]] {
             assert_eq!(set(features), Ok(0), "{features:#x}");
         }
-        for features in [1, 0x4000_0000, 0x2_0000_0000, 1 << 63, OFFERED + 1] {
+        for features in [1, 0x4000_0000, 0x2_0000_0000, 1 << 63, OFFERED[0] + 1] {
             assert_eq!(set(features), refused(Refusal::Mismatch), "{features:#x}");
         }
     }

@@ -119,7 +119,7 @@ module _ {M : Type 1} (𝓤 : URA M) (H : Heap 𝓤) (A : Atoms 𝓤) (W : Given
   next-is : Is R h (image h ∷ []) → (r : LoadReply) (u : Val) → Is L.the-row r (u ∷ []) → (t : Bool) → Is R (next r t) (image (next r t) ∷ [])
   next-is was r u is true =
       let w = LL.owed T.the-type T′.the-laws h (image h ∷ []) was in
-      LL.owes T.the-type T′.the-laws (next r true) (w .0, (w .1 .0, (registers-are r u is, (w .1 .1 .1 .0, tt))))
+      LL.owes T.the-type T′.the-laws (next r true) (w .0, (w .1 .0, (registers-are r u is, w .1 .1 .1)))
   next-is was r u is false = was
 
   -- what the call's triple binds outside

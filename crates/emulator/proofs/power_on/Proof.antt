@@ -25,11 +25,17 @@ clear-requires c κs = search needs
 reset-requires : tie.Need-reset-requires
 reset-requires c κs = search needs
 
+words-of-requires : tie.Need-words-of-requires
+words-of-requires c κs = search needs
+
 same-length-2 : tie.Need-same-length-2
 same-length-2 c = search needs
 
 returns-2 : tie.Need-returns-2
-returns-2 c = power-done _ _ _ _ (found-true (c .before .before .before .before .before .before .before .lendable .ensures) (c .before .before .before .before .before .before .if1 .left)) (c .reset .ensures) (c .before .before .before .before .clear .ensures _)
+returns-2 c =
+    let r = c .before in
+    let l = r .before .before .before .before .before .before in
+    power-done _ _ _ _ _ _ (c .words-of .ensures) (found-true (l .before .lendable .ensures) (l .if1 .left)) (r .reset .ensures) (r .before .before .before .before .clear .ensures _)
 
 pub power-on-spec : {M : Type 1} → statement M
-power-on-spec = tie.close (tie.spec lendable-requires same-length returns clear-requires reset-requires same-length-2 returns-2)
+power-on-spec = tie.close (tie.spec lendable-requires same-length returns clear-requires reset-requires words-of-requires same-length-2 returns-2)

@@ -28,7 +28,7 @@ load-parts-requires : tie.Need-load-parts-requires
 load-parts-requires c κs = search needs
 
 returns-3 : tie.Need-returns-3
-returns-3 c = c .load-parts .ensures ∙ agree _ _ (load-parts _ _ (c .before .before .if1 .left) (c .before .if2 .left))
+returns-3 c = c .load-parts .ensures ∙ agree _ _ (load-parts _ _ _ (c .before .before .if1 .left) (c .before .if2 .left))
 
 pub load-spec : {M : Type 1} → statement M
 load-spec = tie.close (tie.spec refused-requires returns refused-requires-2 returns-2 load-parts-requires returns-3)

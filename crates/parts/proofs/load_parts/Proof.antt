@@ -6,6 +6,7 @@ use mathlib.Core.Logic.{⊎-elim}
 use lib.ListN.{length, getD}
 use Rattle.answer.specs.Tests.{flagged}
 use Rattle.registers.specs.Rows.{rowOf}
+use Rattle.registers.proofs.Cards.{card-small}
 use Rattle.registers.proofs.Rows.{size-most}
 use Rattle.registers.proofs.File.{absent}
 use Rattle.parts.specs.Step.{stepAt, valueTo}
@@ -18,16 +19,16 @@ use Rattle.parts.proofs.load_parts.Statement.{statement}
 use Rattle.parts.proofs.load_parts.Tie as tie
 
 abbrev Inv-loop : tie.InvT-loop
-Inv-loop s slots₀ offered₀ at₀ slots offered at = Loop s at slots offered
+Inv-loop words s slots₀ offered₀ at₀ slots offered at = Loop words s at slots offered
 
 abbrev μ-loop : tie.MeasureT-loop
-μ-loop s slots₀ offered₀ at₀ slots offered at = length s - at
+μ-loop words s slots₀ offered₀ at₀ slots offered at = length s - at
 
 unset-requires : tie.Need-unset-requires Inv-loop μ-loop
 unset-requires c κs = search needs
 
 loop-holds : tie.Need-loop-holds Inv-loop μ-loop
-loop-holds c = loop-start _ _ (c .unset .ensures)
+loop-holds c = loop-start _ _ _ (c .unset .ensures)
 
 step-at-requires : tie.Need-step-at-requires Inv-loop μ-loop
 step-at-requires c κs = search needs
@@ -47,12 +48,12 @@ array-copy-out-status c = search needs
 finish-requires : tie.Need-finish-requires Inv-loop μ-loop
 finish-requires c κs =
     let l = c .before .before .before .before .before in
-    (l .loop .inv .canonical, status-named (l .loop .slots))
+    (l .loop .inv .canonical, status-named _ (l .loop .slots))
 
 returns : tie.Need-returns Inv-loop μ-loop
 returns c =
     let l = c .before .before .before .before .before .before in
-    c .finish .ensures (l .loop .inv .features) ∙ agree _ _ (loop-end _ _ _ _ (l .loop .inv) (sym (c .before .before .before .enum-told .given .1) ∙ c .before .before .before .before .before .step-at .ensures))
+    c .finish .ensures (l .loop .inv .features) ∙ agree _ _ (loop-end _ _ _ _ _ (l .loop .inv) (sym (c .before .before .before .enum-told .given .1) ∙ c .before .before .before .before .before .step-at .ensures))
 
 enum-known-step : tie.Need-enum-known-step Inv-loop μ-loop
 enum-known-step c = search needs
@@ -63,7 +64,7 @@ refused-requires c κs = search needs
 returns-2 : tie.Need-returns-2 Inv-loop μ-loop
 returns-2 c =
     let l = c .before .before .before .before .before in
-    c .refused .ensures ∙ agree _ _ (loop-refused _ _ _ _ (l .loop .inv) _ _ (sym (c .before .before .step .given .1) ∙ c .before .before .before .before .step-at .ensures))
+    c .refused .ensures ∙ agree _ _ (loop-refused _ _ _ _ _ (l .loop .inv) _ _ (sym (c .before .before .step .given .1) ∙ c .before .before .before .before .step-at .ensures))
 
 enum-known-step-2 : tie.Need-enum-known-step-2 Inv-loop μ-loop
 enum-known-step-2 c = search needs
@@ -108,33 +109,35 @@ array-copy-out-r c = search needs
 known : (c : tie.Joined1 Inv-loop μ-loop)
     → let p = c .before .before .before .before in
     let l = p .before .before .before in
-    c .if1 .twice ≡ named (seenIn (l .loop .inv .features) (l .loop .slots)) (kind p) (selector p)
+    c .if1 .twice ≡ named (seenIn (l .before .before .before .args .words) (l .loop .inv .features) (l .loop .slots)) (kind p) (selector p)
 known c =
     let p = c .before .before .before .before in
     let l = p .before .before .before in
     let e = c .before .row-of .ensures in
-    ⊎-elim (λ w. w .1 ∙ sym (l .loop .inv .flag) ∙ sym (named-offered _ (l .loop .slots) (kind p) (selector p) (sym e ∙ w .0 .taken)))
+    ⊎-elim (λ w. w .1 ∙ sym (l .loop .inv .flag) ∙ sym (named-offered _ _ (l .loop .slots) (kind p) (selector p) (sym e ∙ w .0 .taken)))
     (⊎-elim
-    (λ w. w .4 ∙ ap (λ (i : ℕ). flagged (getD (l .loop .slots) (i - 1) absent .set)) e ∙ sym (named-kept _ (l .loop .slots) (kind p) (selector p) (omega arith)))
-    (λ w. w .2 ∙ named-none _ (l .loop .slots) (kind p) (selector p) (l .loop .inv .long) (omega arith)))
+    (λ w. w .4 ∙ ap (λ (i : ℕ). flagged (getD (l .loop .slots) (i - 1) absent .set)) e ∙ sym (named-kept _ _ (l .loop .slots) (kind p) (selector p) (omega arith)))
+    (λ w. w .2 ∙ named-none _ _ (l .loop .slots) (kind p) (selector p) (l .loop .inv .long) (omega arith)))
     (c .if1 .came)
 
 cast-check-part : tie.Need-cast-check-part Inv-loop μ-loop
 cast-check-part c = search needs
 
 check-part-requires : tie.Need-check-part-requires Inv-loop μ-loop
-check-part-requires c κs = c .before .row-of .ensures
+check-part-requires c κs =
+    let l = c .before .before .before .before .before .before .before in
+    (l .before .before .before .pre, c .before .row-of .ensures)
 
 -- what the checks of the part came to
 checked : (c : tie.After-check-part Inv-loop μ-loop)
     → let j = c .before in
     let p = j .before .before .before .before in
     let l = p .before .before .before in
-    c .check-part .result ≡ partChecks (j .if1 .twice) (kind p) (flags p) (selector p) (valueTo (l .before .before .before .args .s .now) (l .loop .at) (next p))
+    c .check-part .result ≡ partChecks (l .before .before .before .args .words) (j .if1 .twice) (kind p) (flags p) (selector p) (valueTo (l .before .before .before .args .s .now) (l .loop .at) (next p))
 checked c =
     let j = c .before in
     let p = j .before .before .before .before in
-    c .check-part .ensures ∙ ap (partChecks (j .if1 .twice) (kind p) (flags p) (selector p)) (j .before .before .value-to .ensures)
+    c .check-part .ensures ∙ ap (partChecks _ (j .if1 .twice) (kind p) (flags p) (selector p)) (j .before .before .value-to .ensures)
 
 enum-known-verdict : tie.Need-enum-known-verdict Inv-loop μ-loop
 enum-known-verdict c = search needs
@@ -148,7 +151,7 @@ returns-3 c =
     let j = m .before in
     let p = j .before .before .before .before in
     let l = p .before .before .before in
-    c .refused2 .ensures ∙ agree _ _ (loop-fault _ _ _ _ (l .loop .inv) _ _ _ _ (part p) _ (known j) _ _ (sym (c .before .before .verdict .given .1) ∙ checked m))
+    c .refused2 .ensures ∙ agree _ _ (loop-fault _ _ _ _ _ (l .loop .inv) _ _ _ _ (part p) _ (known j) _ _ (sym (c .before .before .verdict .given .1) ∙ checked m))
 
 enum-told-2 : tie.Need-enum-told-2 Inv-loop μ-loop
 enum-told-2 c = search needs
@@ -159,9 +162,10 @@ holding-requires c κs =
     let m = told .before .before in
     let j = m .before in
     let e = j .before .row-of .ensures in
-    let size = part-size _ _ _ _ _ (sym (m .check-part .ensures) ∙ told .enum-told2 .given .1) (omega arith) in
+    let size = part-size _ _ _ _ _ _ (sym (m .check-part .ensures) ∙ told .enum-told2 .given .1) (omega arith) in
     let p = j .before .before .before .before in
-    omega (arith, size-most (rowOf (kind p) (selector p)) (omega arith))
+    let s = p .before .before .before .before .before .before in
+    omega (arith, size-most (s .args .words) (rowOf (kind p) (selector p)) (card-small _ (s .pre)) (omega arith))
 
 sub-slots : tie.Need-sub-slots Inv-loop μ-loop
 sub-slots c = search needs
@@ -190,7 +194,7 @@ loop-again c =
     let j = m .before in
     let p = j .before .before .before .before in
     let l = p .before .before .before in
-    loop-offered _ _ _ _ (l .loop .inv) _ _ _ _ (part p) _ (known j) (sym (told .enum-told2 .given .1) ∙ checked m) (sym (j .before .row-of .ensures) ∙ c .if3 .taken)
+    loop-offered _ _ _ _ _ (l .loop .inv) _ _ _ _ (part p) _ (known j) (sym (told .enum-told2 .given .1) ∙ checked m) (sym (j .before .row-of .ensures) ∙ c .if3 .taken)
 
 loop-less-2 : tie.Need-loop-less-2 Inv-loop μ-loop
 loop-less-2 c = nearer (c .before .before .before .before .before .before .before .before .before .before)
@@ -205,7 +209,7 @@ loop-again-2 c =
     let l = p .before .before .before in
     let e = j .before .row-of .ensures in
     rw (c .holding .ensures, j .before .before .value-to .ensures, e)
-    (loop-kept _ _ _ _ (l .loop .inv) _ _ _ _ (part p) _ (known j) (sym (told .enum-told2 .given .1) ∙ checked m) (omega arith) (omega arith))
+    (loop-kept _ _ _ _ _ (l .loop .inv) _ _ _ _ (part p) _ (known j) (sym (told .enum-told2 .given .1) ∙ checked m) (omega arith) (omega arith))
 
 loop-less-3 : tie.Need-loop-less-3 Inv-loop μ-loop
 loop-less-3 c = nearer (c .before .before .before .before .before .before .before .before .before)
@@ -218,7 +222,7 @@ loop-again-3 c =
     let p = j .before .before .before .before in
     let l = p .before .before .before in
     let e = j .before .row-of .ensures in
-    loop-skipped _ _ _ _ (l .loop .inv) _ _ _ _ (part p) _ (known j) (sym (told .enum-told2 .given .1) ∙ checked m) (omega arith)
+    loop-skipped _ _ _ _ _ (l .loop .inv) _ _ _ _ (part p) _ (known j) (sym (told .enum-told2 .given .1) ∙ checked m) (omega arith)
 
 pub load-parts-spec : {M : Type 1} → statement M
 load-parts-spec =

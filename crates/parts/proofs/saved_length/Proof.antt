@@ -13,19 +13,19 @@ use Rattle.parts.proofs.saved_length.Statement.{statement}
 use Rattle.parts.proofs.saved_length.Tie as tie
 
 abbrev Inv-loop : tie.InvT-loop
-Inv-loop slots n₀ i₀ n i = Count (fileOf (record { slots = slots })) n (i + 1)
+Inv-loop words slots n₀ i₀ n i = Count words (fileOf words (record { slots = slots })) n (i + 1)
 
 abbrev μ-loop : tie.MeasureT-loop
-μ-loop slots n₀ i₀ n i = 14 - i
+μ-loop words slots n₀ i₀ n i = 14 - i
 
 size-of-requires : tie.Need-size-of-requires Inv-loop μ-loop
 size-of-requires c κs = search needs
 
 add-n : tie.Need-add-n Inv-loop μ-loop
-add-n c = omega (arith, c .size-of .ensures, size-most 0 (omega arith))
+add-n c = omega (arith, c .size-of .ensures, size-most (c .before .before .args .words) 0 (omega arith) (omega arith))
 
 loop-holds : tie.Need-loop-holds Inv-loop μ-loop
-loop-holds c = rw (c .size-of .ensures) (count-start _)
+loop-holds c = rw (c .size-of .ensures) (count-start _ (c .before .before .pre) _)
 
 mul-r : tie.Need-mul-r Inv-loop μ-loop
 mul-r c = search needs
@@ -45,7 +45,7 @@ size-of-requires-2 c κs = search needs
 add-n-3 : tie.Need-add-n-3 Inv-loop μ-loop
 add-n-3 c =
     let l = c .before .before .before .before .before in
-    omega (arith, l .loop .inv .small, c .size-of2 .ensures, size-most (l .loop .i + 1) (omega arith))
+    omega (arith, l .loop .inv .small, c .size-of2 .ensures, size-most (l .before .before .before .args .words) (l .loop .i + 1) (omega arith) (omega arith))
 
 add-i : tie.Need-add-i Inv-loop μ-loop
 add-i c = search needs
@@ -59,14 +59,14 @@ loop-again c =
     let l = m .before .before .before in
     let s = l .before .before .before in
     let here : l .loop .i < 14 = m .before .before .loop-test .taken in
-    let shown = slot-row (s .args .registers) (l .loop .i) in
+    let shown = slot-row _ (s .args .registers) (l .loop .i) in
     ⊎-elim
-    (λ w. count-more _ _ _ (l .loop .inv) (omega arith) _ shown (slot-whole (s .args .registers) _ (s .good .0) (l .loop .i) here) (eq-eqb _ _ (w .0 .taken)) _ (w .2 ∙ ap (λ (z : ℕ). l .loop .n + 16 + z) (w .1 .ensures)))
-    (λ w. count-none _ _ _ (l .loop .inv) (omega arith) _ shown (ne-eqb _ _ (w .0 .left)) _ (w .1))
+    (λ w. count-more _ (s .pre) _ _ _ (l .loop .inv) (omega arith) _ shown (slot-whole (s .args .registers) _ (s .good .1 .0) (l .loop .i) here) (eq-eqb _ _ (w .0 .taken)) _ (w .2 ∙ ap (λ (z : ℕ). l .loop .n + 16 + z) (w .1 .ensures)))
+    (λ w. count-none _ (s .pre) _ _ _ (l .loop .inv) (omega arith) _ shown (ne-eqb _ _ (w .0 .left)) _ (w .1))
     (c .if1 .came)
 
 returns : tie.Need-returns Inv-loop μ-loop
-returns c = count-end _ _ _ (c .before .loop .inv) (omega arith)
+returns c = count-end _ (c .before .before .before .before .pre) _ _ _ (c .before .loop .inv) (omega arith)
 
 pub saved-length-spec : {M : Type 1} → statement M
 saved-length-spec =

@@ -43,17 +43,17 @@ bound c =
 -- the checks that are left, on what the calls gave
 rest : (c : tie.After-current)
     → let a = c .before .before .before .before .before .before .before .args in
-    readChecks (fileOf (a .registers)) (a .kind) (a .selector) (a .room)
-    ≡ (Unset unless flagged (c .current .result .set) then NoSpace when ltb (a .room) (sizeOf (c .before .row-of .result)))
+    readChecks (a .words) (fileOf (a .words) (a .registers)) (a .kind) (a .selector) (a .room)
+    ≡ (Unset unless flagged (c .current .result .set) then NoSpace when ltb (a .room) (sizeOf (a .words) (c .before .row-of .result)))
 rest c =
     let t = c .before .before in
     let s = t .before .before in
     let row = c .before .row-of .ensures in
-    read-listed _ _ _ _ (sym (s .before .before .is-listed .ensures) ∙ not-false (s .before .before .is-listed .result) (s .before .if1 .left)) (sym (s .check-selector .ensures) ∙ t .enum-told .given .1)
+    read-listed _ _ _ _ _ (sym (s .before .before .is-listed .ensures) ∙ not-false (s .before .before .is-listed .result) (s .before .if1 .left)) (sym (s .check-selector .ensures) ∙ t .enum-told .given .1)
     ∙ rw (← row, ← c .current .ensures .0, set-is)
 
 current-requires : tie.Need-current-requires
-current-requires c κs = bound c
+current-requires c κs = (omega arith, bound c)
 
 returns-2 : tie.Need-returns-2
 unfolding _then_ _unless_

@@ -11,7 +11,7 @@ offered-requires : tie.Need-offered-requires
 offered-requires c κs = search needs
 
 returns : tie.Need-returns
-returns c = rw (c .before .if1 .taken, c .offered .ensures) (features-row _, features-whole)
+returns c = rw (c .before .if1 .taken, c .offered .ensures) (features-row _ _ (omega arith), features-whole)
 
 sub-i : tie.Need-sub-i
 sub-i c = search needs
@@ -25,7 +25,7 @@ array-copy-out-result c = search needs
 returns-2 : tie.Need-returns-2
 returns-2 c =
     let s = c .before .before .before in
-    (sym (current-kept (s .args .registers) (s .args .row) (omega arith)), slot-whole (s .args .registers) _ (s .good .0) (s .args .row - 1) (omega arith))
+    (sym (current-kept _ (s .args .registers) (s .args .row) (omega arith)), slot-whole (s .args .registers) _ (s .good .1 .0) (s .args .row - 1) (omega arith))
 
 pub current-spec : {M : Type 1} → statement M
 current-spec =

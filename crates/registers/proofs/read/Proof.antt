@@ -14,29 +14,29 @@ use Rattle.registers.proofs.read.Statement.{statement}
 use Rattle.registers.proofs.read.Tie as tie
 
 -- what the checks that passed tell
-can : (c : tie.After-row-of) → let a = c .before .before .args in Readable (fileOf (a .registers)) (a .kind) (a .selector) (length (a .buf .now))
-can c = readable _ _ _ _ (c .before .before .pre)
+can : (c : tie.After-row-of) → let a = c .before .before .args in Readable (a .words) (fileOf (a .words) (a .registers)) (a .kind) (a .selector) (length (a .buf .now))
+can c = readable _ _ _ _ _ (c .before .before .pre .1)
 
 -- the value is what stands at the start of the register's bytes
 value : (c : tie.After-size-of)
     → let a = c .before .before .before .before .args in
-    readValue (fileOf (a .registers)) (a .kind) (a .selector) ≡ take (c .size-of .result) (c .before .current .result .bytes)
+    readValue (a .words) (fileOf (a .words) (a .registers)) (a .kind) (a .selector) ≡ take (c .size-of .result) (c .before .current .result .bytes)
 value c =
     let m = c .before .before in
     let e = m .row-of .ensures in
-    value-read _ _ _ (c .before .current .result) (rw (← e) (c .before .current .ensures .0)) (can m .held) ∙ rw (← e, ← c .size-of .ensures)
+    value-read _ _ _ _ (c .before .current .result) (rw (← e) (c .before .current .ensures .0)) (can m .held) ∙ rw (← e, ← c .size-of .ensures)
 
-size : (c : tie.After-size-of) → c .size-of .result ≡ sizeOf (rowOf (c .before .before .before .before .args .kind) (c .before .before .before .before .args .selector))
-size c = c .size-of .ensures ∙ ap sizeOf (c .before .before .row-of .ensures)
+size : (c : tie.After-size-of) → let a = c .before .before .before .before .args in c .size-of .result ≡ sizeOf (a .words) (rowOf (a .kind) (a .selector))
+size c = c .size-of .ensures ∙ ap (sizeOf (c .before .before .before .before .args .words)) (c .before .before .row-of .ensures)
 
 small : (c : tie.After-size-of) → c .size-of .result ≤ length (c .before .current .result .bytes)
-small c = omega (arith, size c, size-most _ (can (c .before .before) .bound), c .before .current .ensures .1)
+small c = omega (arith, size c, size-most (c .before .before .before .before .args .words) _ (omega arith) (can (c .before .before) .bound), c .before .current .ensures .1)
 
 row-of-requires : tie.Need-row-of-requires
 row-of-requires c κs = search needs
 
 current-requires : tie.Need-current-requires
-current-requires c κs = omega (arith, c .row-of .ensures, can c .bound)
+current-requires c κs = (omega arith, omega (arith, c .row-of .ensures, can c .bound))
 
 size-of-requires : tie.Need-size-of-requires
 size-of-requires c κs = omega (arith, c .before .row-of .ensures, can (c .before) .bound)

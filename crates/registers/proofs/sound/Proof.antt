@@ -14,10 +14,10 @@ use Rattle.registers.proofs.sound.Statement.{statement}
 use Rattle.registers.proofs.sound.Tie as tie
 
 abbrev Inv-loop : tie.InvT-loop
-Inv-loop slots i₀ i = (i ≤ 14) × (soundFile (fileFrom 1 slots) ≡ soundValuesFrom (i + 1) (fileFrom (i + 1) (drop i slots)))
+Inv-loop words slots i₀ i = (i ≤ 14) × (soundFile words (fileFrom words 1 slots) ≡ soundValuesFrom words (i + 1) (fileFrom words (i + 1) (drop i slots)))
 
 abbrev μ-loop : tie.MeasureT-loop
-μ-loop slots i₀ i = 14 - i
+μ-loop words slots i₀ i = 14 - i
 
 sub-status : tie.Need-sub-status Inv-loop μ-loop
 sub-status c = search needs
@@ -29,11 +29,38 @@ array-copy-out-status : tie.Need-array-copy-out-status Inv-loop μ-loop
 array-copy-out-status c = search needs
 
 returns : tie.Need-returns Inv-loop μ-loop
-returns c = sound-status _ (ne-eqb _ _ (c .if1 .taken))
+returns c = sound-status _ _ (ne-eqb _ _ (c .if1 .taken))
+
+array-copy-out-features : tie.Need-array-copy-out-features Inv-loop μ-loop
+array-copy-out-features c = search needs
+
+is-sound-requires : tie.Need-is-sound-requires Inv-loop μ-loop
+is-sound-requires c κs =
+    let s = c .before .before .before .before .before in
+    (s .pre, omega arith, omega arith, slot-whole (s .args .registers) _ (s .good .1 .0) 0 (omega arith))
+
+-- all are sound if driver features are and those behind them are
+first : (c : tie.After-is-sound Inv-loop μ-loop)
+    → let s = c .before .before .before .before .before .before in
+    let w = s .args .words in
+    let slots = s .args .registers .slots in
+    soundFile w (fileFrom w 1 slots) ≡ (c .is-sound .result and soundValuesFrom w 2 (fileFrom w 2 (drop 1 slots)))
+unfolding fileOf
+first c =
+    let s = c .before .before .before .before .before .before in
+    let w = s .args .words in
+    let slots = s .args .registers .slots in
+    let long : length slots ≡ 14 = search (needs, length-mapped) in
+    sound-rest w (s .args .registers) (eq-eqb _ _ (c .before .before .if1 .left)) ∙ sound-more w slots 0 (omega arith)
+    ∙ ap (λ (t : Bool). t and soundValuesFrom w 2 (fileFrom w 2 (drop 1 slots))) (sym (c .is-sound .ensures))
+
+returns-2 : tie.Need-returns-2 Inv-loop μ-loop
+unfolding _and_ fileOf
+returns-2 c = sym (first (c .before) ∙ rw (not-true (c .before .is-sound .result) (c .if2 .taken)))
 
 loop-holds : tie.Need-loop-holds Inv-loop μ-loop
-unfolding fileOf
-loop-holds c = (omega arith, sound-rest _ (eq-eqb _ _ (c .if1 .left)))
+unfolding _and_
+loop-holds c = (omega arith, first (c .before) ∙ rw (not-false (c .before .is-sound .result) (c .if2 .left)))
 
 mul-r : tie.Need-mul-r Inv-loop μ-loop
 mul-r c = search needs
@@ -44,28 +71,34 @@ array-copy-out-r c = search needs
 add-is-sound : tie.Need-add-is-sound Inv-loop μ-loop
 add-is-sound c = search needs
 
-is-sound-requires : tie.Need-is-sound-requires Inv-loop μ-loop
-is-sound-requires c κs =
-    let l = c .before .before in
-    let s = l .before .before .before .before .before in
-    (omega arith, slot-whole (s .args .registers) _ (s .good .0) (l .loop .i) (omega arith))
+-- where the call began
+abbrev start : (c : tie.At-loop Inv-loop μ-loop) → tie.Start Inv-loop μ-loop
+start c = c .before .before .before .before .before .before .before .before
 
--- all are sound if this one is and those behind it are
-turn : (c : tie.After-is-sound Inv-loop μ-loop)
+is-sound-requires-2 : tie.Need-is-sound-requires-2 Inv-loop μ-loop
+is-sound-requires-2 c κs =
+    let l = c .before .before in
+    let s = start l in
+    (s .pre, omega arith, omega arith, slot-whole (s .args .registers) _ (s .good .1 .0) (l .loop .i) (omega arith))
+
+-- and if this one is and those behind it are
+turn : (c : tie.After-is-sound2 Inv-loop μ-loop)
     → let l = c .before .before .before in
     let i = l .loop .i in
-    let slots = l .before .before .before .before .before .args .registers .slots in
-    soundFile (fileFrom 1 slots) ≡ (c .is-sound .result and soundValuesFrom (i + 1 + 1) (fileFrom (i + 1 + 1) (drop (i + 1) slots)))
+    let w = start l .args .words in
+    let slots = start l .args .registers .slots in
+    soundFile w (fileFrom w 1 slots) ≡ (c .is-sound2 .result and soundValuesFrom w (i + 1 + 1) (fileFrom w (i + 1 + 1) (drop (i + 1) slots)))
 turn c =
     let l = c .before .before .before in
     let i = l .loop .i in
-    let slots = l .before .before .before .before .before .args .registers .slots in
+    let w = start l .args .words in
+    let slots = start l .args .registers .slots in
     let long : length slots ≡ 14 = search (needs, length-mapped) in
-    l .loop .inv .1 ∙ sound-more slots i (omega arith) ∙ ap (λ (t : Bool). t and soundValuesFrom (i + 1 + 1) (fileFrom (i + 1 + 1) (drop (i + 1) slots))) (sym (c .is-sound .ensures))
+    l .loop .inv .1 ∙ sound-more w slots i (omega arith) ∙ ap (λ (t : Bool). t and soundValuesFrom w (i + 1 + 1) (fileFrom w (i + 1 + 1) (drop (i + 1) slots))) (sym (c .is-sound2 .ensures))
 
-returns-2 : tie.Need-returns-2 Inv-loop μ-loop
+returns-3 : tie.Need-returns-3 Inv-loop μ-loop
 unfolding _and_ fileOf
-returns-2 c = sym (turn (c .before) ∙ rw (not-true (c .before .is-sound .result) (c .if2 .taken)))
+returns-3 c = sym (turn (c .before) ∙ rw (not-true (c .before .is-sound2 .result) (c .if3 .taken)))
 
 add-i : tie.Need-add-i Inv-loop μ-loop
 add-i c = search needs
@@ -75,14 +108,14 @@ loop-less c = search needs
 
 loop-again : tie.Need-loop-again Inv-loop μ-loop
 unfolding _and_
-loop-again c = (omega arith, turn (c .before) ∙ rw (not-false (c .before .is-sound .result) (c .if2 .left)))
+loop-again c = (omega arith, turn (c .before) ∙ rw (not-false (c .before .is-sound2 .result) (c .if3 .left)))
 
-returns-3 : tie.Need-returns-3 Inv-loop μ-loop
+returns-4 : tie.Need-returns-4 Inv-loop μ-loop
 unfolding fileOf
-returns-3 c =
+returns-4 c =
     let l = c .before in
-    let long : length (l .before .before .before .before .before .args .registers .slots) ≡ 14 = search (needs, length-mapped) in
-    sym (l .loop .inv .1 ∙ sound-end _ (l .loop .i) (omega arith))
+    let long : length (start l .args .registers .slots) ≡ 14 = search (needs, length-mapped) in
+    sym (l .loop .inv .1 ∙ sound-end _ _ (l .loop .i) (omega arith))
 
 pub sound-spec : {M : Type 1} → statement M
 sound-spec =
@@ -94,13 +127,16 @@ sound-spec =
     mul-status
     array-copy-out-status
     returns
+    array-copy-out-features
+    is-sound-requires
+    returns-2
     loop-holds
     mul-r
     array-copy-out-r
     add-is-sound
-    is-sound-requires
-    returns-2
+    is-sound-requires-2
+    returns-3
     add-i
     loop-less
     loop-again
-    returns-3)
+    returns-4)

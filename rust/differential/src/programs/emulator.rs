@@ -20,7 +20,7 @@ pub fn emulate(
         told(kept.outcome)
     };
     let answer = match *call {
-        Call::FreshStart => kept(raw::power_on(state, memory, marks)),
+        Call::FreshStart { card } => kept(raw::power_on(state, card, memory, marks)),
         Call::Request { target, number } => {
             kept(raw::request(state, memory, marks, target, number, buffer))
         }

@@ -15,7 +15,7 @@ pub fn refer(
     buffer: &mut [u8],
 ) -> Answer {
     let answer = match *call {
-        Call::FreshStart => bench::fresh_start(state, memory, marks),
+        Call::FreshStart { card } => bench::fresh_start(state, card.words().into(), memory, marks),
         Call::Request { target, number } => {
             let (target, number) = (u64::from(target), u64::from(number));
             requests::request(state, memory, marks, target, number, buffer)

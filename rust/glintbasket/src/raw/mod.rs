@@ -6,10 +6,10 @@
 //!
 //! ```
 //! use glintbasket::raw::{self, State};
-//! use glintbasket::{MemoryAddress, Refusal};
+//! use glintbasket::{Card, MemoryAddress, Refusal};
 //!
 //! let (mut memory, mut marks) = (vec![0xa5; 4096], vec![0; 4096]);
-//! let state = raw::power_on(&State::default(), &memory, &mut marks).state;
+//! let state = raw::power_on(&State::default(), Card::Features64, &memory, &mut marks).state;
 //! raw::host_write(&state, &mut memory, &mut marks, MemoryAddress(0), b"go");
 //!
 //! let mut command = [0; 3];
@@ -34,10 +34,18 @@ pub use structs::{
 };
 
 use crate::address::{DeviceAddress, MemoryAddress};
+use crate::card::Card;
 
 // As include/glintbasket.h declares them: a slice is a pointer and a length, and an address is its number.
 extern "C" {
     fn glint_power_on(
+        state: State,
+        memory: *const u8,
+        memory_length: usize,
+        marks: *mut u8,
+        marks_length: usize,
+    ) -> Kept;
+    fn glint_power_on_128(
         state: State,
         memory: *const u8,
         memory_length: usize,
@@ -128,12 +136,16 @@ extern "C" {
     fn glint_step(stream: *const u8, stream_length: usize, place: usize) -> PartStep;
 }
 
-/// Fresh start: see [`Bench::power_on`](crate::Bench::power_on).
+/// Fresh start of a card: see [`Bench::power_on_as`](crate::Bench::power_on_as).
 #[inline]
-pub fn power_on(state: &State, memory: &[u8], marks: &mut [u8]) -> Kept {
+pub fn power_on(state: &State, card: Card, memory: &[u8], marks: &mut [u8]) -> Kept {
+    let exported = match card {
+        Card::Features64 => glint_power_on,
+        Card::Features128 => glint_power_on_128,
+    };
     // SAFETY: the slices are valid for their lengths, and Rust keeps `marks` apart (see above).
     unsafe {
-        glint_power_on(
+        exported(
             *state,
             memory.as_ptr(),
             memory.len(),

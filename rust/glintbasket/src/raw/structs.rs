@@ -1,7 +1,7 @@
 //! The structs as C lays them out.
 
 use crate::address::{DeviceAddress, MemoryAddress, Rights};
-use crate::{kind, MAPPINGS};
+use crate::{kind, Card, MAPPINGS};
 
 /// `size` bytes of memory from `memory` on, shown at the device addresses from `device` on.
 #[repr(C)]
@@ -32,7 +32,8 @@ pub struct Table {
 /// How many registers are kept.
 pub const REGISTERS: usize = 14;
 
-/// Type, selector and size of each kept register, as they stand in [`Registers`].
+/// Type, selector and size of each kept register, as they stand in [`Registers`], on the card with 64 feature bits; [`State::value_size`]
+/// has the size on any.
 pub const SLOTS: [(u64, u64, usize); REGISTERS] = [
     (kind::DRIVER_FEATURES, 0, 8),
     (kind::COMMON_FIELD, 0, 4),
@@ -84,6 +85,9 @@ pub struct State {
     pub registers: Registers,
     /// 1 if the device runs. Every other value says that it does not.
     pub running: u8,
+    /// Which card it is: how many 64-bit words of features it has, 1 or 2 (see [`Card`](crate::Card)). Every other value makes the state
+    /// unsound.
+    pub words: u8,
 }
 
 /// An answer: a result, or a refusal's number and place.
@@ -162,6 +166,19 @@ impl State {
     pub fn is_running(&self) -> bool {
         self.running == 1
     }
+
+    /// Which card it is, if there is such a one.
+    pub fn card(&self) -> Option<Card> {
+        Card::with_words(self.words)
+    }
+
+    /// The size of the value in a slot of [`Registers`]: that of driver features goes by the card.
+    pub fn value_size(&self, slot: usize) -> usize {
+        match SLOTS[slot] {
+            (kind::DRIVER_FEATURES, _, _) => 8 * usize::from(self.words),
+            (_, _, size) => size,
+        }
+    }
 }
 
 impl Default for Table {
@@ -185,6 +202,7 @@ const _: () = {
     assert!(offset_of!(State, table) == 8);
     assert!(offset_of!(State, registers) == 2064);
     assert!(offset_of!(State, running) == 2526);
+    assert!(offset_of!(State, words) == 2527);
     assert!(size_of::<Outcome>() == 24);
     assert!(size_of::<Kept>() == 2552);
     assert!(size_of::<Found>() == 40);

@@ -4,12 +4,12 @@ use super::bytes::{self, Pattern, Stale, BYTES_MAX};
 use super::number::Number;
 use super::request;
 use super::words::{quoted, Words};
-use glintbasket::{DeviceAddress, MemoryAddress};
+use glintbasket::{Card, DeviceAddress, MemoryAddress};
 
 /// One call, with its arguments.
 #[derive(Clone, Debug, PartialEq)]
 pub enum Call {
-    PowerOn,
+    PowerOn(Card),
     Request {
         target: u64,
         number: u64,
@@ -40,7 +40,7 @@ pub enum Call {
 
 /// The first words of calls, and their forms.
 const FORMS: [(&str, &str); 15] = [
-    ("power-on", "`power-on`"),
+    ("power-on", "`power-on [card CARD]`"),
     ("request", "`request TARGET NUMBER BYTES`"),
     ("look-up", "`look-up DEVICE`"),
     ("card-read", "`card-read DEVICE LENGTH`"),
@@ -73,7 +73,7 @@ pub fn read(words: &mut Words) -> Option<Call> {
 /// The arguments of a known call. All are read before any is required, so that each fault is noted.
 fn arguments(name: &str, words: &mut Words) -> Option<Call> {
     match name {
-        "power-on" => Some(Call::PowerOn),
+        "power-on" => Some(Call::PowerOn(super::card(words).unwrap_or_default())),
         "request" => request::read(words),
         "look-up" => device(words).map(Call::LookUp),
         "card-read" => {

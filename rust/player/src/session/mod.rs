@@ -11,6 +11,7 @@ pub use call::Call;
 pub use number::byte;
 pub use request::output_size;
 
+use glintbasket::Card;
 use number::Number;
 use std::fmt;
 use words::{Line, Words};
@@ -25,6 +26,7 @@ const GARBAGE: u8 = 0xa5;
 pub struct Session {
     pub memory_size: usize,
     pub garbage: u8,
+    pub card: Card,
     pub steps: Vec<Step>,
 }
 
@@ -76,6 +78,7 @@ struct MemoryLine {
     line: usize,
     size: u64,
     garbage: u8,
+    card: Card,
 }
 
 impl Reader {
@@ -124,12 +127,14 @@ impl Reader {
         }
         let size = words.number(&Number::up_to("SIZE", MEMORY_MAX));
         let garbage = garbage(words);
-        words.finish("`memory SIZE [garbage BYTE]`");
+        let card = card(words);
+        words.finish("`memory SIZE [garbage BYTE] [card CARD]`");
         words.no_expectation();
         self.memory = Some(MemoryLine {
             line,
             size: size.unwrap_or(0),
             garbage: garbage.unwrap_or(GARBAGE),
+            card: card.unwrap_or_default(),
         });
     }
 
@@ -170,6 +175,7 @@ impl Reader {
             Some(memory) if self.faults.is_empty() => Ok(Session {
                 memory_size: memory.size as usize,
                 garbage: memory.garbage,
+                card: memory.card,
                 steps: self.steps,
             }),
             _ => Err(self.faults),
@@ -177,7 +183,28 @@ impl Reader {
     }
 }
 
-/// The end of a `memory` line, `garbage BYTE`, if it is there.
+/// `card 64` or `card 128`, if it is there: a card by the number of its feature bits.
+fn card(words: &mut Words) -> Option<Card> {
+    if !words.peek()?.is("card") {
+        return None;
+    }
+    words.next();
+    let Some(word) = words.next() else {
+        words.missing("CARD");
+        return None;
+    };
+    match word.plain() {
+        Some("64") => Some(Card::Features64),
+        Some("128") => Some(Card::Features128),
+        _ => {
+            let message = "a card is 64 or 128, by the number of its feature bits";
+            words.fault(word.column, message.to_string());
+            None
+        }
+    }
+}
+
+/// `garbage BYTE` on a `memory` line, if it is there.
 fn garbage(words: &mut Words) -> Option<u8> {
     if !words.peek()?.is("garbage") {
         return None;

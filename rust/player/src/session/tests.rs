@@ -194,7 +194,7 @@ fn stale_bytes_stand_in_requests_alone() {
 #[test]
 fn every_call_is_read() {
     let (device, memory) = (DeviceAddress(1), MemoryAddress(1));
-    assert_eq!(call("power-on"), Call::PowerOn);
+    assert_eq!(call("power-on"), Call::PowerOn(Card::Features64));
     assert_eq!(call("look-up 1"), Call::LookUp(device));
     assert_eq!(call("card-read 1 2"), Call::CardRead(device, 2));
     assert!(matches!(call("card-write 1 00"), Call::CardWrite(d, _) if d == device));

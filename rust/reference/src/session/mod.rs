@@ -8,12 +8,16 @@ mod words;
 pub use play::play;
 pub use read::{byte, read};
 
+use crate::registers::Words;
+
 /// A session file without faults.
 #[derive(Clone, Debug, PartialEq, Eq)]
 pub struct Session {
     pub memory_size: usize,
     /// What memory, output buffers and stale bytes start as.
     pub garbage: u8,
+    /// The words of the card's features.
+    pub card: Words,
     pub lines: Vec<Line>,
 }
 
@@ -28,7 +32,9 @@ pub struct Line {
 
 #[derive(Clone, Debug, PartialEq, Eq)]
 pub enum Call {
-    PowerOn,
+    PowerOn {
+        card: Words,
+    },
     /// A byte of the buffer that is nothing is stale.
     Request {
         target: u64,

@@ -35,7 +35,7 @@ struct Player {
 impl Player {
     fn new(session: &Session) -> Player {
         Player {
-            state: State::fresh(session.memory_size as u64),
+            state: State::fresh_card(session.card, session.memory_size as u64),
             memory: vec![session.garbage; session.memory_size],
             marks: vec![0; session.memory_size],
             garbage: session.garbage,
@@ -50,8 +50,8 @@ impl Player {
     /// Plays one call and says what is printed behind the line's number.
     fn play(&mut self, call: &Call) -> String {
         match call {
-            Call::PowerOn => {
-                let answer = fresh_start(&mut self.state, &self.memory, &mut self.marks);
+            Call::PowerOn { card } => {
+                let answer = fresh_start(&mut self.state, *card, &self.memory, &mut self.marks);
                 number(answer)
             }
             Call::Request {

@@ -4,6 +4,7 @@ use super::names::{request_named, Field, Named, REQUESTS};
 use super::words::{cut, Cut, Form, Word};
 use super::{Call, Fault, Line, Session};
 use crate::bytes::put_number;
+use crate::registers::Words;
 use crate::requests::{listed, CONTAINER, DEVICE};
 
 /// Of LENGTH and ROOM of buffers, and of the bytes that one line may write out.
@@ -31,8 +32,8 @@ pub fn byte(word: &str) -> Result<u8, String> {
 
 #[derive(Default)]
 struct Reader {
-    /// Size and garbage, once the first line was met (also a faulty one).
-    memory: Option<(u64, u8)>,
+    /// Size, garbage and card, once the first line was met (also a faulty one).
+    memory: Option<(u64, u8, Words)>,
     lines: Vec<Line>,
     faults: Vec<Fault>,
 }
@@ -97,11 +98,12 @@ impl Reader {
     fn read_memory(&mut self, column: usize, mut arguments: Arguments) {
         let size = arguments.number_up_to("SIZE", MEMORY_LIMIT);
         let garbage = arguments.garbage();
+        let card = arguments.card();
         arguments.no_more();
         if self.memory.is_some() {
             self.fault(arguments.line, column, "a second `memory` line");
         }
-        self.memory = Some((size, garbage));
+        self.memory = Some((size, garbage, card));
         self.faults.extend(arguments.faults);
     }
 
@@ -118,7 +120,7 @@ impl Reader {
                 word.column,
                 "`memory SIZE` must come before all calls",
             );
-            self.memory = Some((0, 0)); // say it once
+            self.memory = Some((0, 0, 1)); // say it once
         }
         let call = arguments.call(word);
         self.faults.extend(arguments.faults);
@@ -137,9 +139,10 @@ impl Reader {
         }
         self.faults.sort_by_key(|fault| (fault.line, fault.column));
         match self.memory {
-            Some((size, garbage)) if self.faults.is_empty() => Ok(Session {
+            Some((size, garbage, card)) if self.faults.is_empty() => Ok(Session {
                 memory_size: size as usize,
                 garbage,
+                card,
                 lines: self.lines,
             }),
             _ => Err(self.faults),
@@ -227,18 +230,36 @@ impl Arguments {
         self.number_up_to(name, BUFFER_LIMIT) as usize
     }
 
+    /// Takes the next word if it is this one.
+    fn takes(&mut self, name: &str) -> bool {
+        let next = self.words.get(self.taken);
+        let is = next.is_some_and(|word| word.form == Form::Plain(name.to_string()));
+        self.taken += usize::from(is);
+        is
+    }
+
     /// `[garbage BYTE]`
     fn garbage(&mut self) -> u8 {
-        match self.next() {
-            None => DEFAULT_GARBAGE,
-            Some(word) if word.form == Form::Plain("garbage".to_string()) => {
-                self.number_up_to("BYTE", 255) as u8
+        if self.takes("garbage") {
+            return self.number_up_to("BYTE", 255) as u8;
+        }
+        DEFAULT_GARBAGE
+    }
+
+    /// `[card 64]` or `[card 128]`: the words of the card's features, of the first card where
+    /// nothing is said.
+    fn card(&mut self) -> Words {
+        if !self.takes("card") {
+            return 1;
+        }
+        match self.plain("CARD") {
+            Some((_, text)) if text == "64" => 1,
+            Some((_, text)) if text == "128" => 2,
+            Some((column, _)) => {
+                self.fault(column, "a card is 64 or 128, by its feature bits");
+                1
             }
-            Some(word) => {
-                self.fault(word.column, "`garbage BYTE` or nothing is expected here");
-                self.taken = self.words.len();
-                0
-            }
+            None => 1,
         }
     }
 
@@ -288,7 +309,7 @@ impl Arguments {
             return None;
         };
         let call = match text.as_str() {
-            "power-on" => Call::PowerOn,
+            "power-on" => Call::PowerOn { card: self.card() },
             "request" => return self.request(),
             "look-up" => Call::LookUp {
                 device: self.number("DEVICE"),

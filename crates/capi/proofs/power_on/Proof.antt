@@ -1,8 +1,8 @@
--- `capi::glint_power_on` meets its contract: it is that of `emulator::power_on`.
+-- `capi::power_on` meets its contract: it is that of `emulator::power_on`.
 use borrow.Author.Needs.{needs}
 use Rattle.capi.proofs.Answers.{as-kept}
-use Rattle.capi.proofs.glint_power_on.Statement.{statement}
-use Rattle.capi.proofs.glint_power_on.Tie as tie
+use Rattle.capi.proofs.power_on.Statement.{statement}
+use Rattle.capi.proofs.power_on.Tie as tie
 
 power-on-requires : tie.Need-power-on-requires
 power-on-requires c κs = tt
@@ -16,5 +16,5 @@ same-length c = search needs
 returns : tie.Need-returns
 returns c = as-kept (c .with-state .ensures) (c .before .before .before .power-on .ensures)
 
-pub glint-power-on-spec : {M : Type 1} → statement M
-glint-power-on-spec = tie.close (tie.spec power-on-requires with-state-requires same-length returns)
+pub power-on-spec : {M : Type 1} → statement M
+power-on-spec = tie.close (tie.spec power-on-requires with-state-requires same-length returns)
