@@ -6,7 +6,7 @@
  * The first half of this file declares the library: structs, constants and functions. The second half is a thin layer over it,
  * struct glint_bench and the functions glint_bench_*, which keeps the state for the caller. Most programs need the second half alone:
  *
- *     static uint8_t memory[8192], marks[8192];
+ *     static uint8_t memory[8192], marks[GLINT_MARKS(8192)];
  *     static glint_bench bench;
  *     glint_bench_init(&bench, memory, marks, sizeof memory);
  *     glint_bench_map(&bench, glint_memory(0), glint_device(0x10000), 4096, GLINT_READ);
@@ -47,6 +47,9 @@ extern "C" {
 #define GLINT_TRANSFER_LIMIT 65536u               /* bytes of one transfer, and of a stream */
 #define GLINT_PART_HEADER 16u                     /* bytes of a part before its value */
 #define GLINT_SAVED_MAX 445u                      /* bytes that saving ever writes: 41 to 429 for the card with 64 feature bits, 49 to 445 with 128 */
+
+/* Bytes that the marks of `length` bytes of memory take: eight marks to a byte. */
+#define GLINT_MARKS(length) ((length) / 8 + ((length) % 8 != 0))
 
 /* ---- refusals */
 
@@ -221,6 +224,9 @@ GLINT_ASSERT(sizeof(glint_found) == 40);
 GLINT_ASSERT(sizeof(glint_part_step) == 56);
 
 /* ---- the library's functions */
+
+/* Memory is lent with its marks: bit i % 8 of mark byte i / 8 says whether byte i was written. They take GLINT_MARKS(memory_length)
+ * bytes; any other length is refused (1). Bits past the end of memory mean nothing, and no call changes them. */
 
 /*
  * Fresh start: all marks 0, memory bytes untouched, the memory's length noted, no mapping, the device stopped and reset. The first is that
@@ -446,14 +452,14 @@ static inline glint_outcome glint_bench_power_on_128(glint_bench *bench)
     return glint_bench_keep(bench, &kept);
 }
 
-/* Takes `length` bytes of memory and as many marks; before a fresh start every other call is refused. */
+/* Takes `length` bytes of memory and GLINT_MARKS(length) bytes of marks; before a fresh start every other call is refused. */
 static inline void glint_bench_lend(glint_bench *bench, uint8_t *memory, uint8_t *marks, size_t length)
 {
     memset(bench, 0, sizeof *bench);
     bench->memory = memory;
     bench->memory_length = length;
     bench->marks = marks;
-    bench->marks_length = length;
+    bench->marks_length = GLINT_MARKS(length);
 }
 
 /* The same, with a fresh start of the card with 64 feature bits. Where that is refused, so is every other call until one is not. */
@@ -468,6 +474,14 @@ static inline glint_outcome glint_bench_init_128(glint_bench *bench, uint8_t *me
 {
     glint_bench_lend(bench, memory, marks, length);
     return glint_bench_power_on_128(bench);
+}
+
+/* Whether somebody has written the byte at a memory address. No byte past the end of memory is. */
+static inline bool glint_bench_is_written(const glint_bench *bench, glint_memory_address address)
+{
+    if (glint_bench_is_null(bench) || address.value >= bench->memory_length || address.value / 8 >= bench->marks_length)
+        return false;
+    return bench->marks[address.value / 8] >> (address.value % 8) & 1;
 }
 
 /* ---- requests */

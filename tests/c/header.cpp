@@ -8,14 +8,14 @@
 
 int main()
 {
-    std::vector<std::uint8_t> memory(8192), marks(8192, 1);
+    std::vector<std::uint8_t> memory(8192), marks(GLINT_MARKS(8192), 1);
     glint_bench bench;
     glint_outcome started = glint_bench_init(&bench, memory.data(), marks.data(), memory.size());
     glint_outcome mapped = glint_bench_map(&bench, glint_memory(0), glint_device(4096), 4096, GLINT_READ);
     std::uint8_t byte = 7;
     glint_outcome read = glint_bench_device_read(&bench, glint_device(4096), &byte, 1);
 
-    bool good = !started.refused && marks[8191] == 0 && !mapped.refused && read.refused && read.code == GLINT_UNWRITTEN &&
+    bool good = !started.refused && marks[GLINT_MARKS(8192) - 1] == 0 && !mapped.refused && read.refused && read.code == GLINT_UNWRITTEN &&
                 read.place == 0 && byte == 7 && glint_refusal_name(read.code) == std::string("Unwritten");
     std::printf("%d passed, %d failed\n", good ? 1 : 0, good ? 0 : 1);
     return good ? EXIT_SUCCESS : EXIT_FAILURE;

@@ -146,7 +146,7 @@ static glint_bench bench;
 static void fresh_bench(void)
 {
     uint8_t *bytes = fill(&memory, ROOM);
-    glint_outcome outcome = glint_bench_init(&bench, bytes, fill(&marks, ROOM), ROOM);
+    glint_outcome outcome = glint_bench_init(&bench, bytes, fill(&marks, GLINT_MARKS(ROOM)), ROOM);
     CHECK_DONE(outcome, 0);
 }
 
@@ -186,10 +186,10 @@ static glint_outcome device_read(uint64_t iova, size_t length)
     return outcome;
 }
 
-static bool marked(size_t from, size_t to, uint8_t mark)
+static bool marked(size_t from, size_t to, bool mark)
 {
     for (size_t i = from; i < to; i++)
-        if (fenced_bytes(&marks)[i] != mark)
+        if (glint_bench_is_written(&bench, glint_memory(i)) != mark)
             return false;
     return true;
 }
@@ -215,13 +215,34 @@ static void power_on(void)
     CHECK(fenced_bytes(&memory)[5] == 'x');
 }
 
+// 11 bytes of memory have two mark bytes. Bits past the end stay as they are, and a mark byte more or less is refused.
+static void packed_marks(void)
+{
+    uint8_t *bytes = fill(&memory, 11), *bits = lend(&marks, "\xff\xff", 2);
+    CHECK(GLINT_MARKS(0) == 0 && GLINT_MARKS(1) == 1 && GLINT_MARKS(8) == 1 && GLINT_MARKS(9) == 2 && GLINT_MARKS(11) == 2);
+    CHECK_DONE(glint_bench_init(&bench, bytes, bits, 11), 0);
+    CHECK_BYTES(bits, "\x00\xf8", 2);
+    CHECK_DONE(glint_bench_host_write(&bench, glint_memory(7), "ab", 2), 0);
+    CHECK_BYTES(bits, "\x80\xf9", 2);
+    CHECK(marked(0, 7, false) && marked(7, 9, true) && marked(9, 20, false));
+    CHECK_DONE(glint_bench_host_write(&bench, glint_memory(9), "cd", 2), 0);
+    CHECK_BYTES(bits, "\x80\xff", 2);
+    CHECK_REFUSED(glint_bench_host_read(&bench, glint_memory(9), fill(&buffer, 3), 3), GLINT_RANGE, 0);
+    CHECK_DONE(glint_bench_invalidate(&bench, glint_memory(0), 11), 0);
+    CHECK_BYTES(bits, "\x00\xf8", 2);
+    bench.marks_length = 1;
+    CHECK_REFUSED(glint_bench_power_on(&bench), GLINT_BAD_BENCH, 0);
+    bench.marks_length = 3;
+    CHECK_REFUSED(glint_bench_power_on(&bench), GLINT_BAD_BENCH, 0);
+}
+
 static void bad_bench(void)
 {
     fresh_bench();
     bench.marks_length--;
     CHECK_REFUSED(glint_bench_power_on(&bench), GLINT_BAD_BENCH, 0);
     CHECK_REFUSED(device_read(0, 0), GLINT_BAD_BENCH, 0);
-    bench.memory_length--;
+    bench.memory_length -= 8;
     CHECK_REFUSED(device_read(0, 0), GLINT_BAD_BENCH, 0);
     CHECK_DONE(glint_bench_power_on(&bench), 0);
     CHECK_DONE(device_read(0, 0), 0);
@@ -721,7 +742,7 @@ int main(void)
         TEST(power_on),     TEST(bad_bench),     TEST(container),  TEST(iommu_info),  TEST(map_and_look_up), TEST(table_full),
         TEST(unmap_ranges), TEST(device_reads),  TEST(device_writes), TEST(host_loads), TEST(device_info),   TEST(region_info),
         TEST(irq_info),     TEST(registers),     TEST(save_and_load), TEST(steps),      TEST(no_memory),     TEST(refusal_names),
-        TEST(null_pointers), TEST(refused_info), TEST(flag_bytes), TEST(second_card),
+        TEST(null_pointers), TEST(refused_info), TEST(flag_bytes), TEST(second_card), TEST(packed_marks),
     };
     const unsigned count = sizeof tests / sizeof *tests;
     unsigned failed = 0;

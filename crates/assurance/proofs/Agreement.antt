@@ -7,12 +7,13 @@ use mathlib.Core.List.{List, [], _∷_}
 use lib.ListN.{length, getD, set, length-set}
 use Rattle.address.specs.Address.{memoryAddress}
 use Rattle.address.specs.declared.MemoryAddress.{MemoryAddress}
-use Rattle.memory.specs.Shadow.{initialized, marked}
+use Rattle.memory.specs.Shadow.{Shadow, initialized, marked, SameMarks}
 use Rattle.memory.specs.Memory.{Memory, Edit, put, clear, edit, edited, byteAt}
-use Rattle.memory.proofs.Marks.{marked-other, cleared-was}
-use Rattle.emulator.specs.Machine.{Machine, Emulator}
+use Rattle.memory.proofs.Marks.{marked-other, cleared-was, marked-alike}
+use Rattle.emulator.specs.Machine.{Machine, Emulator, lendable}
 use Rattle.emulator.specs.Effect.{Effect, Outcome, after}
 use Rattle.emulator.specs.Calls.{input, outcome}
+use Rattle.emulator.proofs.SameMarks.{shadowedBy, outcome-same}
 use Rattle.assurance.specs.Overwrite.{overwrite, mask}
 use Rattle.assurance.specs.Runs.{Ask, Others, Event, written, disturbed, lentTo, event, turn, run, Same, Alike}
 use Rattle.assurance.proofs.Overwrite.{length-overwrite, overwrite-overwrite, getD-kept, mask-eq}
@@ -20,38 +21,31 @@ use Rattle.assurance.proofs.Blind.{seen, blind}
 
 -- ---- the relation of demand 3 is equality of what is seen
 
-emulator-eq : {b c s t : List ℕ} {k l : Machine} → b ≡ c → s ≡ t → k ≡ l
+emulator-eq : {b c : List ℕ} {s t : Shadow} {k l : Machine} → b ≡ c → s ≡ t → k ≡ l
     → _≡_ {A = Emulator} (record { memory = record { bytes = b; shadow = s }; machine = k }) (record { memory = record { bytes = c; shadow = t }; machine = l })
 emulator-eq p q r = λ i. record { memory = record { bytes = p i; shadow = q i }; machine = r i }
 
-pub same→seen : (e f : Emulator) → Same e f → seen e ≡ seen f
-unfolding seen written byteAt
+-- the second under the first one's shadow
+pub same→seen : (e f : Emulator) → Same e f → seen e ≡ seen (shadowedBy (e .memory .shadow) f)
+unfolding seen written byteAt shadowedBy
 same→seen e f s =
-    emulator-eq
-    (mask-eq (written (e .memory)) (e .memory .bytes) (f .memory .bytes) (s .size) (λ a h. s .bytes (memoryAddress a) h)
-    ∙ ap (λ (m : List ℕ). mask (λ a. initialized m (memoryAddress a)) (f .memory .bytes)) (s .shadow))
-    (s .shadow) (s .machine)
+    emulator-eq (mask-eq (written (e .memory)) (e .memory .bytes) (f .memory .bytes) (s .size) (λ a h. s .bytes (memoryAddress a) h)) refl (s .machine)
 
-pub seen→same : (e f : Emulator) → seen e ≡ seen f → Same e f
+-- emulators that are seen alike have memories of one length, which agree wherever a byte is written
+seen-parts : (e f : Emulator) → seen e ≡ seen f
+    → (length (e .memory .bytes) ≡ length (f .memory .bytes)) × ((a : MemoryAddress) → initialized (e .memory .shadow) a ≡ true → byteAt (e .memory) a ≡ byteAt (f .memory) a)
 unfolding seen written byteAt mask
-seen→same e f p =
+seen-parts e f p =
     let shadow : e .memory .shadow ≡ f .memory .shadow = ap (λ (x : Emulator). x .memory .shadow) p in
-    let bytes : seen e .memory .bytes ≡ seen f .memory .bytes = ap (λ (x : Emulator). x .memory .bytes) p in
-    record {
-      machine = ap (λ (x : Emulator). x .machine) p;
-      shadow = shadow;
-      size = sym (length-overwrite _ _ (e .memory .bytes)) ∙ ap length bytes ∙ length-overwrite _ _ (f .memory .bytes);
-      bytes = λ a h.
+    let bytes : seen e .memory .bytes ≡ seen f .memory .bytes = ap (λ (x : Emulator). x .memory .bytes) p in (
+      sym (length-overwrite _ _ (e .memory .bytes)) ∙ ap length bytes ∙ length-overwrite _ _ (f .memory .bytes),
+      λ a h.
           sym (getD-kept (written (e .memory)) (λ i. 0) (e .memory .bytes) (a .0) h)
           ∙ ap (λ (l : List ℕ). getD l (a .0) 0) bytes
-          ∙ getD-kept (written (f .memory)) (λ i. 0) (f .memory .bytes) (a .0) (ap (λ (m : List ℕ). initialized m a) (sym shadow) ∙ h);
-    }
+          ∙ getD-kept (written (f .memory)) (λ i. 0) (f .memory .bytes) (a .0) (ap (λ (m : Shadow). initialized m a) (sym shadow) ∙ h),
+    )
 
--- ---- others change nothing that is seen
-
-pub seen-disturbed : (w : Others) (e : Emulator) → seen (disturbed w e) ≡ seen e
-unfolding seen mask disturbed written
-seen-disturbed w e = emulator-eq (overwrite-overwrite (written (e .memory)) (λ i. 0) (w .memory) (e .memory .bytes)) refl refl
+-- ---- others change nothing that a call takes in
 
 pub mask-lent : (w : Others) (q : Ask) → mask (input (q .call)) (lentTo w q) ≡ mask (input (q .call)) (q .buffer)
 unfolding mask lentTo
@@ -73,7 +67,7 @@ set-agree (y ∷ l) (z ∷ m) (suc a) x (suc k) e h = set-agree l m a x k (omega
 seenMemory : Memory → Memory
 seenMemory m = record { bytes = mask (written m) (m .bytes); shadow = m .shadow }
 
-memory-eq : {b c s t : List ℕ} → b ≡ c → s ≡ t → _≡_ {A = Memory} (record { bytes = b; shadow = s }) (record { bytes = c; shadow = t })
+memory-eq : {b c : List ℕ} {s t : Shadow} → b ≡ c → s ≡ t → _≡_ {A = Memory} (record { bytes = b; shadow = s }) (record { bytes = c; shadow = t })
 memory-eq p q = λ i. record { bytes = p i; shadow = q i }
 
 seen-edit : (d : Edit) (m : Memory) → seenMemory (edit d m) ≡ seenMemory (edit d (seenMemory m))
@@ -105,25 +99,82 @@ unfolding after seen seenMemory
 seen-after o e f h =
     ap (λ (m : Memory). record { memory = m; machine = o .machine }) (seen-edited (o .edits) (e .memory) (f .memory) (ap (λ (x : Emulator). x .memory) h))
 
+-- ---- the same marks are kept by edits, and bytes do not go by marks
+
+edit-marks : (d : Edit) (m n : Memory) → SameMarks (m .shadow) (n .shadow) → SameMarks (edit d m .shadow) (edit d n .shadow)
+unfolding edit
+edit-marks (put a x) m n h = marked-alike (m .shadow) (n .shadow) a true h
+edit-marks (clear a) m n h = marked-alike (m .shadow) (n .shadow) a false h
+
+edited-marks : (ds : List Edit) (m n : Memory) → SameMarks (m .shadow) (n .shadow) → SameMarks (edited ds m .shadow) (edited ds n .shadow)
+unfolding edited
+edited-marks [] m n h = h
+edited-marks (d ∷ ds) m n h = edited-marks ds (edit d m) (edit d n) (edit-marks d m n h)
+
+edit-bytes : (d : Edit) (m n : Memory) → m .bytes ≡ n .bytes → edit d m .bytes ≡ edit d n .bytes
+unfolding edit
+edit-bytes (put a x) m n h = ap (λ (l : List ℕ). set l (a .0) x) h
+edit-bytes (clear a) m n h = h
+
+edited-bytes : (ds : List Edit) (m n : Memory) → m .bytes ≡ n .bytes → edited ds m .bytes ≡ edited ds n .bytes
+unfolding edited
+edited-bytes [] m n h = h
+edited-bytes (d ∷ ds) m n h = edited-bytes ds (edit d m) (edit d n) (edit-bytes d m n h)
+
+-- ---- one call
+
+same-disturbed : (w v : Others) (e f : Emulator) → Same e f → Same (disturbed w e) (disturbed v f)
+unfolding disturbed written byteAt
+same-disturbed w v e f s =
+    record {
+      machine = s .machine;
+      shadow = s .shadow;
+      size = length-overwrite _ _ (e .memory .bytes) ∙ s .size ∙ sym (length-overwrite _ _ (f .memory .bytes));
+      bytes = λ a h.
+          getD-kept (written (e .memory)) (w .memory) (e .memory .bytes) (a .0) h
+          ∙ s .bytes a h
+          ∙ sym (getD-kept (written (f .memory)) (v .memory) (f .memory .bytes) (a .0) (sym (s .shadow .at a) ∙ h));
+    }
+
+module _ (e f : Emulator) (s : Same e f) where
+  lent-same : lendable (shadowedBy (e .memory .shadow) f .memory) ≡ lendable (f .memory)
+  unfolding lendable shadowedBy
+  lent-same = rw (s .shadow .level, s .shadow .long, s .shadow .way (length (f .memory .bytes)))
+
+  same-outcome : (w v : Others) (q : Ask) → outcome (q .call) (lentTo w q) e ≡ outcome (q .call) (lentTo v q) f
+  same-outcome w v q =
+      sym (blind (q .call) (lentTo w q) e)
+      ∙ ap₂ (outcome (q .call)) (mask-lent w q ∙ sym (mask-lent v q)) (same→seen e f s)
+      ∙ blind (q .call) (lentTo v q) (shadowedBy (e .memory .shadow) f)
+      ∙ outcome-same (e .memory .shadow) f lent-same (s .shadow .at) (q .call) (lentTo v q)
+
+  same-after : (o : Effect) → Same (after o e) (after o f)
+  unfolding after shadowedBy byteAt
+  same-after o =
+      let g : Emulator = shadowedBy (e .memory .shadow) f in
+      let seenAfter : seen (after o e) ≡ seen (after o g) = seen-after o e g (same→seen e f s) in
+      let bytes : edited (o .edits) (g .memory) .bytes ≡ edited (o .edits) (f .memory) .bytes = edited-bytes (o .edits) (g .memory) (f .memory) refl in
+      let one = seen-parts (after o e) (after o g) seenAfter in
+      record {
+        machine = refl;
+        shadow = edited-marks (o .edits) (e .memory) (f .memory) (s .shadow);
+        size = one .0 ∙ ap length bytes;
+        bytes = λ a h. one .1 a h ∙ ap (λ (l : List ℕ). getD l (a .0) 0) bytes;
+      }
+
 -- ---- runs
 
-same-outcome : (w v : Others) (q : Ask) (e f : Emulator) → seen e ≡ seen f → outcome (q .call) (lentTo w q) e ≡ outcome (q .call) (lentTo v q) f
-same-outcome w v q e f h =
-    sym (blind (q .call) (lentTo w q) e)
-    ∙ ap₂ (outcome (q .call)) (mask-lent w q ∙ sym (mask-lent v q)) h
-    ∙ blind (q .call) (lentTo v q) f
-
-alike : (e f : Emulator) → seen e ≡ seen f → (qs : List Ask) (w v : ℕ → Others) → Alike (run e qs w) (run f qs v)
+alike : (e f : Emulator) → Same e f → (qs : List Ask) (w v : ℕ → Others) → Alike (run e qs w) (run f qs v)
 unfolding run Alike turn event
-alike e f h [] w v = tt
-alike e f h (q ∷ qs) w v =
+alike e f s [] w v = tt
+alike e f s (q ∷ qs) w v =
     let e′ : Emulator = disturbed (w 0) e in
     let f′ : Emulator = disturbed (v 0) f in
-    let h′ : seen e′ ≡ seen f′ = seen-disturbed (w 0) e ∙ h ∙ sym (seen-disturbed (v 0) f) in
-    let o : outcome (q .call) (lentTo (w 0) q) e′ ≡ outcome (q .call) (lentTo (v 0) q) f′ = same-outcome (w 0) (v 0) q e′ f′ h′ in
-    let left : seen (after (outcome (q .call) (lentTo (w 0) q) e′ .effect) e′) ≡ seen (after (outcome (q .call) (lentTo (v 0) q) f′ .effect) f′) =
-    ap (λ (x : Outcome). seen (after (x .effect) e′)) o ∙ seen-after (outcome (q .call) (lentTo (v 0) q) f′ .effect) e′ f′ h′ in
-    (o, seen→same _ _ left, alike _ _ left qs (λ n. w (suc n)) (λ n. v (suc n)))
+    let s′ : Same e′ f′ = same-disturbed (w 0) (v 0) e f s in
+    let o : outcome (q .call) (lentTo (w 0) q) e′ ≡ outcome (q .call) (lentTo (v 0) q) f′ = same-outcome e′ f′ s′ (w 0) (v 0) q in
+    let left : Same (after (outcome (q .call) (lentTo (w 0) q) e′ .effect) e′) (after (outcome (q .call) (lentTo (v 0) q) f′ .effect) f′) =
+    rw (← o) (same-after e′ f′ s′ (outcome (q .call) (lentTo (w 0) q) e′ .effect)) in
+    (o, left, alike _ _ left qs (λ n. w (suc n)) (λ n. v (suc n)))
 
 pub agreement : (e f : Emulator) → Same e f → (qs : List Ask) (w v : ℕ → Others) → Alike (run e qs w) (run f qs v)
-agreement e f s = alike e f (same→seen e f s)
+agreement e f s = alike e f s

@@ -25,7 +25,7 @@ use Rattle.iommu.specs.Table.{translate}
 use Rattle.iommu.specs.declared.Mapping.{Mapping}
 use Rattle.iommu.specs.declared.Translation.{Translation}
 use Rattle.iommu.specs.declared.Translation.the-variants.{At, Nowhere}
-use Rattle.memory.specs.Shadow.{initialized}
+use Rattle.memory.specs.Shadow.{Shadow, initialized}
 use Rattle.memory.specs.Memory.{Memory, byteAt, bytesFrom}
 use Rattle.memory.specs.Transfers.{unwrittenAt, unwrittenIn, hostWriteChecks, hostReadChecks}
 use Rattle.dma.specs.Transfers.{readFault, transferChecks, deviceReadChecks, location, gather}
@@ -188,12 +188,12 @@ checks-blind c buf e = rw (usable-blind (given c) e, own-checks-blind c buf e)
 
 -- ---- the effects of accepted calls
 
-pub unwritten-clear : (shadow : List ℕ) (a : MemoryAddress) → unwrittenAt shadow a ≡ Pass → initialized shadow a ≡ true
+pub unwritten-clear : (shadow : Shadow) (a : MemoryAddress) → unwrittenAt shadow a ≡ Pass → initialized shadow a ≡ true
 unfolding unwrittenAt
 unwritten-clear shadow a h = unless-pass _ _ h
 
 -- a device address that may be read shows a written byte
-pub read-clear : (shadow : List ℕ) (t : Translation) → readFault shadow t ≡ Pass → initialized shadow (location t) ≡ true
+pub read-clear : (shadow : Shadow) (t : Translation) → readFault shadow t ≡ Pass → initialized shadow (location t) ≡ true
 unfolding readFault location
 read-clear shadow Nowhere h = never _ _ h
 read-clear shadow (At a rights) h = unwritten-clear shadow a (then-pass _ _ h .1)
@@ -218,7 +218,7 @@ gather-blind ms e (suc n) d h =
     ap₂ _∷_ (byte-blind e _ (read-clear _ _ (first P d n h))) (gather-blind ms e n (deviceOffset d 1) (shift P d n h))
 
 -- what passed checks say of every offset
-pub host-read-passed : (size : ℕ) (shadow : List ℕ) (a : MemoryAddress) (n : ℕ) → hostReadChecks size shadow a n ≡ Pass
+pub host-read-passed : (size : ℕ) (shadow : Shadow) (a : MemoryAddress) (n : ℕ) → hostReadChecks size shadow a n ≡ Pass
     → (a .0 + n ≤ size) × ((i : ℕ) → i < n → initialized shadow (memoryOffset a i) ≡ true)
 unfolding hostReadChecks hostWriteChecks unwrittenIn inMemoryRange
 host-read-passed size shadow a n h =

@@ -12,6 +12,7 @@ use Rattle.iommu.specs.Requests.{translateChecks, mapChecks, unmapChecks}
 use Rattle.iommu.specs.declared.Translation.{Translation}
 use Rattle.iommu.specs.declared.Translation.the-variants.{At, Nowhere}
 use Rattle.memory.specs.Memory.{Memory, edited}
+use Rattle.memory.specs.Shadow.{Shadow}
 use Rattle.memory.specs.Transfers.{unwrittenAt, unwrittenIn, hostWriteChecks, hostReadChecks, invalidateChecks}
 use Rattle.dma.specs.Transfers.{readFault, writeFault, transferChecks, deviceReadChecks, deviceWriteChecks}
 use Rattle.registers.specs.File.{File}
@@ -58,7 +59,7 @@ request-listed (some r) buf e = search (listing, argsz-listed, listed-listed)
 
 -- ---- transfers
 
-read-fault-listed : (shadow : List ℕ) (t : Translation) → Listed (readFault shadow t)
+read-fault-listed : (shadow : Shadow) (t : Translation) → Listed (readFault shadow t)
 unfolding readFault unwrittenAt
 read-fault-listed shadow (At a rights) = search listing
 read-fault-listed shadow Nowhere = search listing

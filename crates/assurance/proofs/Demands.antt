@@ -6,7 +6,18 @@ use Rattle.assurance.proofs.SaveLoad.{save-load}
 use Rattle.assurance.proofs.Starred.{starred}
 use Rattle.assurance.proofs.Demand3.{demand3}
 use Rattle.assurance.proofs.Session.{sessions}
+use Rattle.assurance.proofs.Packed.{equivalence}
+use Rattle.assurance.proofs.PastEnd.{pastEnd}
 
 pub demands : Demands
 demands =
-    record { demand1 = demand1; roundTrip = round-trips; saveLoad = save-load; starred = starred; demand3 = demand3; sessions = sessions }
+    record {
+      demand1 = demand1;
+      roundTrip = round-trips;
+      saveLoad = save-load;
+      starred = starred;
+      demand3 = demand3;
+      sessions = sessions;
+      equivalence = equivalence;
+      pastEnd = pastEnd;
+    }

@@ -9,6 +9,7 @@ use Rattle.address.specs.Address.{inMemoryRange}
 use Rattle.wire.specs.Field.{field, bytesOf}
 use Rattle.iommu.specs.Table.{soundMappingsFrom, soundTable}
 use Rattle.memory.specs.Shadow.{initialized, marked, shadowLength}
+use Rattle.bitmap.specs.Bits.{bit, withBit}
 use Rattle.memory.specs.Memory.{edit, edited, stores, clears, bytesFrom}
 use Rattle.memory.specs.Transfers.{unwrittenAt, unwrittenIn, hostWriteChecks, hostReadChecks, invalidateChecks}
 use Rattle.registers.specs.Cards.{wordsOf, isCard}
@@ -24,5 +25,5 @@ use Rattle.assurance.specs.Runs.{written, disturbed, lentTo, event, turn
 use Rattle.assurance.specs.Examples.{filledWith, noise, calls, answersOf, buffersOf, expectedAnswers, expectedBuffers, WorkedRuns}
 
 pub worked : WorkedRuns
-unfolding filledWith noise calls answersOf buffersOf expectedAnswers expectedBuffers overwrite written disturbed lentTo event turn run given input ownChecks checks effect outcome _and_ _or_ pick isSome lengthCheck _then_ _when_ _unless_ _at_ firstFault passes settle inMemoryRange field bytesOf soundMappingsFrom soundTable initialized marked shadowLength edit edited stores clears bytesFrom unwrittenAt unwrittenIn hostWriteChecks hostReadChecks invalidateChecks kindOf widthOf sizeIn sizeOf contentChecks valueChecks current withValue reset soundValue soundValuesFrom soundFile soundMappings soundLength wordsOf isCard soundCard soundRegisters sound lendable asNoted usable poweredOn effectOf outcomeOf after filled entryIn identify inFields inputOf interruptAt requestedIndex argszChecks listedChecks sizeChecks requestChecks listedEffect requestEffect
+unfolding filledWith noise calls answersOf buffersOf expectedAnswers expectedBuffers overwrite written disturbed lentTo event turn run given input ownChecks checks effect outcome _and_ _or_ pick isSome lengthCheck _then_ _when_ _unless_ _at_ firstFault passes settle inMemoryRange field bytesOf soundMappingsFrom soundTable initialized marked bit withBit shadowLength edit edited stores clears bytesFrom unwrittenAt unwrittenIn hostWriteChecks hostReadChecks invalidateChecks kindOf widthOf sizeIn sizeOf contentChecks valueChecks current withValue reset soundValue soundValuesFrom soundFile soundMappings soundLength wordsOf isCard soundCard soundRegisters sound lendable asNoted usable poweredOn effectOf outcomeOf after filled entryIn identify inFields inputOf interruptAt requestedIndex argszChecks listedChecks sizeChecks requestChecks listedEffect requestEffect
 worked = record { first = refl; first-buffers = refl; second = refl; second-buffers = refl }

@@ -25,7 +25,7 @@ use Rattle.iommu.specs.declared.Mapping.{Mapping}
 use Rattle.iommu.specs.declared.Translation.{Translation}
 use Rattle.iommu.specs.declared.Translation.the-variants.{At, Nowhere}
 use Rattle.iommu.proofs.Lookup.{find, located, unless, translate-find, Apart, find-insert, free-find, find-without, without-apart, sound-apart}
-use Rattle.memory.specs.Shadow.{initialized, shadowLength}
+use Rattle.memory.specs.Shadow.{initialized, marks, shadowLength}
 use Rattle.memory.specs.Memory.{Memory, edited, byteAt, bytesFrom}
 use Rattle.memory.proofs.Marks.{initialized-below}
 use Rattle.dma.specs.Transfers.{readFault, writeFault, deviceReadChecks, deviceWriteChecks, location, gather}
@@ -232,7 +232,7 @@ ownLedger m = record { mappings = []; byte = λ a. some (byteAt m a) }
 fresh-books : (card : Card) (e : Emulator) → usable (given (powerOn card)) e ≡ true → Books empty (after (effect (powerOn card) [] e) e)
 unfolding usable lendable shadowLength given effect ownLedger find Apart ledgerAfter after poweredOn ownChecks
 fresh-books card e good =
-    let level : length (e .memory .bytes) ≡ length (e .memory .shadow) = sym (eqb-true _ _ (and-true _ _ good .0)) in
+    let level : length (e .memory .bytes) ≡ marks (e .memory .shadow) = sym (eqb-true _ _ (and-true _ _ (and-true _ _ good .0) .0)) in
     let bare : Emulator = record { memory = e .memory; machine = poweredOn card 0 } in
     let own : Books (ownLedger (e .memory)) bare = record { bytes = record { level = level; bytes = λ k p. refl }; maps = λ d. refl; apart = tt } in
     let r = books-after (powerOn card) (ownLedger (e .memory)) bare [] own good refl in

@@ -13,6 +13,7 @@ use Rattle.assurance.specs.SaveLoad.{SaveLoad}
 use Rattle.assurance.specs.Starred.{Starred}
 use Rattle.assurance.specs.Demand3.{Demand3}
 use Rattle.assurance.specs.Session.{Sessions}
+use Rattle.assurance.specs.Packed.{Equivalence, PastEnd}
 
 pub record Demands : Type 0 where
   -- Demand 1. Whatever a call is given, it answers: success, or a refusal by one of 27 numbers, which changes nothing.
@@ -29,3 +30,7 @@ pub record Demands : Type 0 where
   pub demand3 : Demand3
   -- and so do sessions of the code, in which each call meets its contract.
   pub sessions : Sessions
+  -- Packed marks. Each call does on them what it does on wide marks, one to a byte;
+  pub equivalence : Equivalence
+  -- and keeps every bit past the end of memory.
+  pub pastEnd : PastEnd

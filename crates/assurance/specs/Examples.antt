@@ -8,6 +8,7 @@ use lib.ListN.{replicate}
 use Rattle.answer.specs.Codes.{BadBench, Unwritten}
 use Rattle.answer.specs.Answer.{Answer, done, refused}
 use Rattle.address.specs.Address.{memoryAddress}
+use Rattle.memory.specs.Shadow.{packed}
 use Rattle.wire.specs.Field.{bytesOf}
 use Rattle.registers.specs.File.{blank}
 use Rattle.registers.specs.declared.Card.the-variants.{Features64}
@@ -22,7 +23,7 @@ use Rattle.assurance.specs.Starred.{_lent_, gives}
 unfoldable pub filledWith : ℕ → Emulator
 filledWith x =
     record {
-      memory = record { bytes = replicate 8 x; shadow = replicate 8 1 };
+      memory = record { bytes = replicate 8 x; shadow = packed 8 (255 ∷ []) };
       machine = record { memoryLength = 8; count = 0; mappings = []; registers = blank; running = true; words = 1 };
     }
 

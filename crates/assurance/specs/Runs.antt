@@ -7,7 +7,7 @@ use mathlib.Core.List.{List, [], _∷_}
 use lib.ListN.{length}
 use Rattle.address.specs.Address.{memoryAddress}
 use Rattle.address.specs.declared.MemoryAddress.{MemoryAddress}
-use Rattle.memory.specs.Shadow.{initialized}
+use Rattle.memory.specs.Shadow.{initialized, SameMarks}
 use Rattle.memory.specs.Memory.{Memory, byteAt}
 use Rattle.emulator.specs.Machine.{Emulator}
 use Rattle.emulator.specs.Effect.{Outcome, after, filled}
@@ -55,11 +55,11 @@ unfoldable pub run : Emulator → List Ask → (ℕ → Others) → List Event
 run e [] w = []
 run e (q ∷ qs) w = let v = turn (w 0) q e in v ∷ run (v .left) qs (λ n. w (suc n))
 
--- Two emulators that agree on all but unwritten memory: the kept states mean the same, so that both are the same card, marks are equal, and
--- memories have one length and agree wherever a byte is marked written. Neither need be sound.
+-- Two emulators that agree on all but unwritten memory: the kept states mean the same, so that both are the same card, marks are as many and
+-- the same for each byte, and memories have one length and agree wherever a byte is marked written. Neither need be sound.
 pub record Same (e f : Emulator) : Type 0 where
   pub machine : e .machine ≡ f .machine
-  pub shadow : e .memory .shadow ≡ f .memory .shadow
+  pub shadow : SameMarks (e .memory .shadow) (f .memory .shadow)
   pub size : length (e .memory .bytes) ≡ length (f .memory .bytes)
   pub bytes : (a : MemoryAddress) → initialized (e .memory .shadow) a ≡ true → byteAt (e .memory) a ≡ byteAt (f .memory) a
 

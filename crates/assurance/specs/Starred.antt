@@ -1,5 +1,5 @@
 -- The worked values of rules 7.1 to 7.12 and 7.19 to 7.22, as one table under one statement (rule 8.5).
-use Prim.Native.Nat.{ℕ, _+_, _-_, _^_}
+use Prim.Native.Nat.{ℕ, _+_, _-_, _/_, _^_}
 use mathlib.Core.Path.{_≡_}
 use mathlib.Core.Bool.{Bool}
 use mathlib.Core.List.{List, [], _∷_, _++_}
@@ -7,6 +7,7 @@ use lib.ListN.{length, replicate}
 use Rattle.answer.specs.Codes.{Empty, Range, Cuts, Unwritten, Twice, Value, Mismatch, Missing}
 use Rattle.answer.specs.Answer.{Answer, done, refused}
 use Rattle.address.specs.Address.{page, deviceLimit, deviceAddress, memoryAddress}
+use Rattle.memory.specs.Shadow.{packed}
 use Rattle.wire.specs.Field.{bytesOf}
 use Rattle.registers.specs.Rows.{DriverFeatures, QueueConfig}
 use Rattle.registers.specs.declared.Card.{Card}
@@ -37,7 +38,7 @@ pub record Case : Type 0 where
 -- as power on leaves it: nothing is written, whatever bytes stand there
 abbrev pub fresh : Card → Emulator
 fresh card =
-    record { memory = record { bytes = replicate (page + page) 0xA5; shadow = replicate (page + page) 0 }; machine = poweredOn card (page + page) }
+    record { memory = record { bytes = replicate (page + page) 0xA5; shadow = packed (page + page) (replicate (page / 4) 0) }; machine = poweredOn card (page + page) }
 
 unfoldable pub outcomeIn : Case → Outcome
 outcomeIn c = outcomeTo (c .ask) (behind (c .before) (fresh (c .card)))

@@ -22,6 +22,7 @@ use Rattle.iommu.specs.Table.{capacity, translate, mapped, inUse}
 use Rattle.iommu.specs.declared.Table.{Table}
 use Rattle.iommu.specs.declared.Translation.the-variants.{Nowhere}
 use Rattle.memory.specs.Memory.{Memory, memoryOf, edited, stores}
+use Rattle.memory.specs.Shadow.{Shadow, markBytes}
 use Rattle.memory.proofs.Edits.{edited-bytes-length, edited-shadow-length}
 use Rattle.dma.specs.Transfers.{gather, scatter}
 use Rattle.dma.specs.Walk.{Ready, Accepted, runIn, faultOf}
@@ -34,19 +35,19 @@ use Rattle.dma.proofs.Transfers.{fault-nowhere, runFault, gather-more, 
 -- ---- judging
 
 -- the fault at an offset
-abbrev pub faultAt : Bool → List ℕ → Table → DeviceAddress → ℕ → Verdict
+abbrev pub faultAt : Bool → Shadow → Table → DeviceAddress → ℕ → Verdict
 faultAt write shadow t d j = faultOf write shadow (translate (inUse t) (deviceOffset d j))
 
 -- the offsets passed have no fault
-pub record Judged (write : Bool) (shadow : List ℕ) (t : Table) (d : DeviceAddress) (n k i : ℕ) : Type 0 where
-  pub walk : Walk t (length shadow) d n k i
+pub record Judged (write : Bool) (shadow : Shadow) (size : ℕ) (t : Table) (d : DeviceAddress) (n k i : ℕ) : Type 0 where
+  pub walk : Walk t size d n k i
   pub clean : (j : ℕ) → j < k → faultAt write shadow t d j ≡ Pass
 
-pub judged-start : (write : Bool) (shadow : List ℕ) {t : Table} (d : DeviceAddress) (n : ℕ) → Ready t (length shadow) → length (t .entries) ≡ capacity
-    → Judged write shadow t d n 0 0
+pub judged-start : (write : Bool) (shadow : Shadow) {size : ℕ} {t : Table} (d : DeviceAddress) (n : ℕ) → Ready t size → length (t .entries) ≡ capacity
+    → Judged write shadow size t d n 0 0
 judged-start write shadow d n ready full = record { walk = walk-start d n ready full; clean = λ j h. absurd (omega arith) }
 
-module _ {write : Bool} {shadow : List ℕ} {t : Table} {d : DeviceAddress} {n k i : ℕ} (s : Judged write shadow t d n k i) where
+module _ {write : Bool} {shadow : Shadow} {size : ℕ} {t : Table} {d : DeviceAddress} {n k i : ℕ} (s : Judged write shadow size t d n k i) where
   pub judged-pass : n ≤ k → firstFault (faultAt write shadow t d) n ≡ Pass
   judged-pass h = firstFault-pass (faultAt write shadow t d) n (λ j l. s .clean j (omega arith))
 
@@ -61,7 +62,7 @@ module _ {write : Bool} {shadow : List ℕ} {t : Table} {d : DeviceAddress} {n k
     pub judged-gap : r ≡ Gap → k < n → firstFault (faultAt write shadow t d) n ≡ Fail Unmapped k
     judged-gap e b = unmapped b (gap-nowhere (s .walk) more is e b)
 
-    pub judged-past : r ≡ Passed → Judged write shadow t d n k (i + 1)
+    pub judged-past : r ≡ Passed → Judged write shadow size t d n k (i + 1)
     judged-past e = record { walk = walk-past (s .walk) more is e; clean = s .clean }
 
     -- a run, and the verdict v on it
@@ -80,7 +81,7 @@ module _ {write : Bool} {shadow : List ℕ} {t : Table} {d : DeviceAddress} {n k
       pub judged-place : (code place : ℕ) → v ≡ Fail code place → place < len
       judged-place code place h = firstFault-fault _ len code place (on-run ∙ h) .below
 
-      pub judged-run : v ≡ Pass → Judged write shadow t d n (k + len) (i + 1)
+      pub judged-run : v ≡ Pass → Judged write shadow size t d n (k + len) (i + 1)
       judged-run h = record {
         walk = walk-run (s .walk) more is e;
         clean = passes-run (faultAt write shadow t d) k len (s .clean) (firstFault-all (λ j. faultAt write shadow t d (k + j)) len (on-run ∙ h));
@@ -156,7 +157,7 @@ pub record Writing (t : Table) (d : DeviceAddress) (buf : List ℕ) (old new : M
   pub accepted : Accepted (inUse t) d (length buf)
   pub walk : Walk t (length (old .bytes)) d (length buf) k i
   pub bytes-long : length (new .bytes) ≡ length (old .bytes)
-  pub shadow-long : length (new .shadow) ≡ length (old .shadow)
+  pub shadow-long : markBytes (new .shadow) ≡ markBytes (old .shadow)
   pub rest : edited (scatter (inUse t) (deviceOffset d k) (drop k buf)) new ≡ edited (scatter (inUse t) d buf) old
 
 pub writing-start : {t : Table} (d : DeviceAddress) (buf : List ℕ) (m : Memory) → Ready t (length (m .bytes)) → Accepted (inUse t) d (length buf)
@@ -187,7 +188,7 @@ module _ {t : Table} {d : DeviceAddress} {buf : List ℕ} {old new : Memory} {k 
       accepted = s .accepted;
       walk = walk-run (s .walk) more is e;
       bytes-long = ap (λ (m : Memory). length (m .bytes)) stored ∙ edited-bytes-length _ new ∙ s .bytes-long;
-      shadow-long = ap (λ (m : Memory). length (m .shadow)) stored ∙ edited-shadow-length _ new ∙ s .shadow-long;
+      shadow-long = ap (λ (m : Memory). markBytes (m .shadow)) stored ∙ edited-shadow-length _ new ∙ s .shadow-long;
       rest =
           rw stored
           (scatter-more (inUse t) d k a len (run-shown (s .walk) more is e) new buf (run-room (s .walk) more is e .1)

@@ -25,6 +25,7 @@ use Rattle.iommu.specs.declared.Mapping.{Mapping}
 use Rattle.iommu.specs.declared.Translation.{Translation}
 use Rattle.iommu.specs.declared.Translation.the-variants.{At, Nowhere}
 use Rattle.memory.specs.Memory.{Memory, Edit, put, edited, stores, byteAt}
+use Rattle.memory.specs.Shadow.{Shadow, packed}
 use Rattle.memory.specs.Transfers.{unwrittenIn}
 use Rattle.memory.proofs.Edits.{edited-append}
 use Rattle.dma.specs.Transfers.{readFault, writeFault, transferChecks, deviceReadChecks, deviceWriteChecks, location, gather, scatter}
@@ -34,23 +35,23 @@ use Rattle.dma.proofs.Gather.{gather-length, gather-append}
 -- ---- the fault of one byte
 
 -- of a run from `a` on
-abbrev pub runFault : Bool → List ℕ → ℕ → ℕ → ℕ → Verdict
+abbrev pub runFault : Bool → Shadow → ℕ → ℕ → ℕ → Verdict
 runFault write shadow a rights i = faultOf write shadow (At (memoryOffset (memoryAddress a) i) rights)
 
-pub fault-nowhere : (write : Bool) (shadow : List ℕ) → faultOf write shadow Nowhere ≡ Fail Unmapped 0
+pub fault-nowhere : (write : Bool) (shadow : Shadow) → faultOf write shadow Nowhere ≡ Fail Unmapped 0
 unfolding faultOf pick readFault writeFault
 fault-nowhere true shadow = refl
 fault-nowhere false shadow = refl
 
 -- a byte without a fault is mapped
-fault-mapped : (write : Bool) (shadow : List ℕ) (at : Translation) → faultOf write shadow at ≡ Pass → mapped at ≡ true
+fault-mapped : (write : Bool) (shadow : Shadow) (at : Translation) → faultOf write shadow at ≡ Pass → mapped at ≡ true
 unfolding mapped
 fault-mapped write shadow (At a rights) h = refl
 fault-mapped write shadow Nowhere h = never Unmapped 0 (sym (fault-nowhere write shadow) ∙ h)
 
 -- ---- the first fault of a run, which a mapping shows with these rights
 
-module _ (write : Bool) (shadow : List ℕ) (a n rights : ℕ) where
+module _ (write : Bool) (shadow : Shadow) (a n rights : ℕ) where
   no-right : pick write (writable rights) (readable rights) ≡ false → 0 < n → firstFault (runFault write shadow a rights) n ≡ Fail NoRight 0
   unfolding faultOf pick readFault writeFault
   no-right h some = firstFault-at (runFault write shadow a rights) n 0 NoRight 0 some (λ i l. absurd (omega arith)) (go write h)
@@ -79,11 +80,11 @@ module _ (write : Bool) (shadow : List ℕ) (a n rights : ℕ) where
 
 -- ---- checks
 
-pub checks-read : (ms : List Mapping) (shadow : List ℕ) (d : DeviceAddress) (n : ℕ) → transferChecks (faultOf false shadow) ms d n ≡ deviceReadChecks ms shadow d n
+pub checks-read : (ms : List Mapping) (shadow : Shadow) (d : DeviceAddress) (n : ℕ) → transferChecks (faultOf false shadow) ms d n ≡ deviceReadChecks ms shadow d n
 unfolding faultOf pick deviceReadChecks
 checks-read ms shadow d n = refl
 
-pub checks-write : (ms : List Mapping) (shadow : List ℕ) (d : DeviceAddress) (n : ℕ) → transferChecks (faultOf true shadow) ms d n ≡ deviceWriteChecks ms d n
+pub checks-write : (ms : List Mapping) (shadow : Shadow) (d : DeviceAddress) (n : ℕ) → transferChecks (faultOf true shadow) ms d n ≡ deviceWriteChecks ms d n
 unfolding faultOf pick deviceWriteChecks
 checks-write ms shadow d n = refl
 
@@ -110,18 +111,18 @@ module _ (fault : Translation → Verdict) (ms : List Mapping) (d : DeviceAddres
     unfolding transferChecks inDeviceRange
     checks-offsets h = then-next _ _ in-length ∙ then-next _ _ (unless-true _ _ (le-leb _ _ h))
 
-accepted : (write : Bool) (shadow : List ℕ) (ms : List Mapping) (d : DeviceAddress) (n : ℕ) → transferChecks (faultOf write shadow) ms d n ≡ Pass → Accepted ms d n
+accepted : (write : Bool) (shadow : Shadow) (ms : List Mapping) (d : DeviceAddress) (n : ℕ) → transferChecks (faultOf write shadow) ms d n ≡ Pass → Accepted ms d n
 unfolding transferChecks inDeviceRange
 accepted write shadow ms d n h =
     let behind = then-pass _ _ (then-pass _ _ h .1) in
     record { range = leb-true _ _ (unless-pass _ _ (behind .0)); held = λ i l. fault-mapped write shadow _ (firstFault-all _ n (behind .1) i l) }
 
 -- a transfer that passes its checks is what `read` and `write` ask for
-pub read-accepted : (ms : List Mapping) (shadow : List ℕ) (d : DeviceAddress) (n : ℕ) → deviceReadChecks ms shadow d n ≡ Pass → Accepted ms d n
+pub read-accepted : (ms : List Mapping) (shadow : Shadow) (d : DeviceAddress) (n : ℕ) → deviceReadChecks ms shadow d n ≡ Pass → Accepted ms d n
 read-accepted ms shadow d n h = accepted false shadow ms d n (checks-read ms shadow d n ∙ h)
 
 pub write-accepted : (ms : List Mapping) (d : DeviceAddress) (n : ℕ) → deviceWriteChecks ms d n ≡ Pass → Accepted ms d n
-write-accepted ms d n h = accepted true [] ms d n (checks-write ms [] d n ∙ h)
+write-accepted ms d n h = accepted true (packed 0 []) ms d n (checks-write ms (packed 0 []) d n ∙ h)
 
 -- ---- gather and scatter
 

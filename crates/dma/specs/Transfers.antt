@@ -13,11 +13,12 @@ use Rattle.iommu.specs.Table.{translate, readable, writable}
 use Rattle.iommu.specs.declared.Mapping.{Mapping}
 use Rattle.iommu.specs.declared.Translation.{Translation}
 use Rattle.iommu.specs.declared.Translation.the-variants.{At, Nowhere}
+use Rattle.memory.specs.Shadow.{Shadow}
 use Rattle.memory.specs.Memory.{Memory, Edit, put, byteAt}
 use Rattle.memory.specs.Transfers.{unwrittenAt}
 
 -- rule 4.3, what is wrong with one byte: 14, then 15, then for a read 16
-unfoldable pub readFault : List ℕ → Translation → Verdict
+unfoldable pub readFault : Shadow → Translation → Verdict
 readFault shadow Nowhere = Fail Unmapped 0
 readFault shadow (At a rights) =
     NoRight unless readable rights
@@ -34,7 +35,7 @@ transferChecks fault ms d n =
     then Range unless inDeviceRange d n
     then firstFault (λ i. fault (translate ms (deviceOffset d i))) n
 
-unfoldable pub deviceReadChecks : List Mapping → List ℕ → DeviceAddress → ℕ → Verdict
+unfoldable pub deviceReadChecks : List Mapping → Shadow → DeviceAddress → ℕ → Verdict
 deviceReadChecks ms shadow d n = transferChecks (readFault shadow) ms d n
 
 unfoldable pub deviceWriteChecks : List Mapping → DeviceAddress → ℕ → Verdict

@@ -12,6 +12,7 @@ use Rattle.iommu.specs.Table.{capacity, end, addressIn, translate, mapped, soun
 use Rattle.iommu.specs.declared.Mapping.{Mapping}
 use Rattle.iommu.specs.declared.Table.{Table}
 use Rattle.iommu.specs.declared.Translation.{Translation}
+use Rattle.memory.specs.Shadow.{Shadow}
 use Rattle.dma.specs.declared.Run.{Run}
 use Rattle.dma.specs.declared.Run.the-variants.{Gap, Passed, Shows}
 use Rattle.dma.specs.Transfers.{readFault, writeFault, location}
@@ -46,5 +47,5 @@ runIn m d n =
     Passed)
 
 -- what is wrong with one byte, of a write or of a read
-unfoldable pub faultOf : Bool → List ℕ → Translation → Verdict
+unfoldable pub faultOf : Bool → Shadow → Translation → Verdict
 faultOf write shadow = pick write writeFault (readFault shadow)

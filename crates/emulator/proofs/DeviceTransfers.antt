@@ -1,5 +1,5 @@
 -- What card read and card write have to answer and leave, by what is known where they return.
-use Prim.Native.Nat.{ℕ}
+use Prim.Native.Nat.{ℕ, _*_, _≤_}
 use mathlib.Core.Path.{_≡_, refl, sym, _∙_}
 use mathlib.Core.Bool.{true}
 use mathlib.Core.List.{List}
@@ -9,9 +9,10 @@ use Rattle.answer.specs.declared.Verdict.the-variants.{Pass, Fail}
 use Rattle.address.specs.declared.DeviceAddress.{DeviceAddress}
 use Rattle.wire.proofs.Laws.{sets-all}
 use Rattle.iommu.specs.Table.{inUse}
+use Rattle.memory.specs.Shadow.{markBytes}
 use Rattle.memory.specs.Memory.{Memory, edited}
 use Rattle.dma.specs.Transfers.{deviceReadChecks, deviceWriteChecks, gather, scatter}
-use Rattle.dma.specs.Walk.{Ready, FirstRun}
+use Rattle.dma.specs.Walk.{Ready}
 use Rattle.dma.proofs.Gather.{gather-length}
 use Rattle.emulator.specs.Machine.{both, usable, emulatorOf, machineOf}
 use Rattle.emulator.specs.Effect.{value, filled}
@@ -26,15 +27,8 @@ module _ (s : State) (m : Memory) (good : usable both (emulatorOf s m) ≡ true)
   pub memory-ready : Ready (s .table) (length (m .bytes))
   memory-ready = let r = ready s m good in record { few = r .table .few; sound = r .mappings; limit = r .small }
 
-  pub shadow-level : length (m .shadow) ≡ length (m .bytes)
-  shadow-level = ready s m good .level
-
-  pub shadow-ready : Ready (s .table) (length (m .shadow))
-  shadow-ready = rw shadow-level memory-ready
-
-  -- a run that the checks found over the marks is one over memory
-  pub memory-run : {d : DeviceAddress} {at len : ℕ} → FirstRun (inUse (s .table)) d (length (m .shadow)) at len → FirstRun (inUse (s .table)) d (length (m .bytes)) at len
-  memory-run first = rw shadow-level at first
+  pub shadow-room : length (m .bytes) ≤ 8 * markBytes (m .shadow)
+  shadow-room = ready s m good .room
 
 module _ (d : DeviceAddress) (buf : List ℕ) (s : State) (m : Memory) (good : usable both (emulatorOf s m) ≡ true) where
   pub read-refused : (code place : ℕ) → deviceReadChecks (inUse (s .table)) (m .shadow) d (length buf) ≡ Fail code place

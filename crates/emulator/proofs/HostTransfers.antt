@@ -1,5 +1,5 @@
 -- What host store, host load and forget have to answer and leave, by what is known where they return.
-use Prim.Native.Nat.{ℕ, _+_, _≤_}
+use Prim.Native.Nat.{ℕ, _+_, _*_, _^_, _≤_, _<_}
 use native.Mathlib.Omega.{arith}
 use mathlib.Core.Path.{_≡_, refl, sym, _∙_, ap}
 use mathlib.Core.Bool.{true, false}
@@ -11,6 +11,7 @@ use Rattle.answer.specs.declared.Verdict.{Verdict}
 use Rattle.answer.specs.declared.Verdict.the-variants.{Pass, Fail}
 use Rattle.address.specs.declared.MemoryAddress.{MemoryAddress}
 use Rattle.wire.specs.Field.{slice}
+use Rattle.memory.specs.Shadow.{markBytes}
 use Rattle.memory.specs.Memory.{Memory, edited, stores, clears, bytesFrom}
 use Rattle.memory.specs.Transfers.{hostWriteChecks, hostReadChecks, invalidateChecks}
 use Rattle.memory.proofs.Transfers.{invalidate-room, host-write-room, host-read-room}
@@ -24,14 +25,17 @@ use Rattle.emulator.proofs.Soundness.{Ready, ready}
 
 -- a range that passed its checks lies in memory, and in its marks
 module _ (a : MemoryAddress) (n : ℕ) (s : State) (m : Memory) (good : usable both (emulatorOf s m) ≡ true) where
-  pub write-room : hostWriteChecks (length (m .bytes)) a (n) ≡ Pass → (a .0 + n ≤ length (m .bytes)) × (a .0 + n ≤ length (m .shadow))
-  write-room e = (host-write-room (length (m .bytes)) a n e, omega (arith, host-write-room (length (m .bytes)) a n e, ready s m good .level))
+  pub write-room : hostWriteChecks (length (m .bytes)) a (n) ≡ Pass → (a .0 + n ≤ length (m .bytes)) × (a .0 + n ≤ 8 * markBytes (m .shadow))
+  write-room e = (host-write-room (length (m .bytes)) a n e, omega (arith, host-write-room (length (m .bytes)) a n e, ready s m good .room))
 
-  pub read-room : hostReadChecks (length (m .shadow)) (m .shadow) a (n) ≡ Pass → a .0 + n ≤ length (m .bytes)
-  read-room e = omega (arith, host-read-room (length (m .shadow)) a n (m .shadow) e, ready s m good .level)
+  pub read-room : hostReadChecks (length (m .bytes)) (m .shadow) a (n) ≡ Pass → a .0 + n ≤ length (m .bytes)
+  read-room e = host-read-room (length (m .bytes)) a n (m .shadow) e
 
-  pub clear-room : invalidateChecks (length (m .bytes)) a n ≡ Pass → a .0 + n ≤ length (m .shadow)
-  clear-room e = omega (arith, invalidate-room (length (m .bytes)) a n e, ready s m good .level)
+  pub clear-room : invalidateChecks (length (m .bytes)) a n ≡ Pass → (a .0 + n ≤ 8 * markBytes (m .shadow)) × (a .0 + n < 2 ^ 64)
+  clear-room e =
+      let r = ready s m good in
+      let room = invalidate-room (length (m .bytes)) a n e in
+      (omega (arith, r .room), omega (arith, r .small))
 
 module _ (a : MemoryAddress) (buf : List ℕ) (s : State) (m : Memory) (good : usable both (emulatorOf s m) ≡ true) where
   -- ---- host store
@@ -48,19 +52,15 @@ module _ (a : MemoryAddress) (buf : List ℕ) (s : State) (m : Memory) (good : u
 
   -- ---- host load
 
-  -- marks and memory have one length
-  same-checks : hostReadChecks (length (m .bytes)) (m .shadow) a (length buf) ≡ hostReadChecks (length (m .shadow)) (m .shadow) a (length buf)
-  same-checks = rw (ready s m good .level)
-
-  pub read-refused : (code place : ℕ) → hostReadChecks (length (m .shadow)) (m .shadow) a (length buf) ≡ Fail code place
+  pub read-refused : (code place : ℕ) → hostReadChecks (length (m .bytes)) (m .shadow) a (length buf) ≡ Fail code place
       → Meets (hostRead a) buf s m (refused code place) buf m s
   unfolding given ownChecks emulatorOf
-  read-refused code place e = refused-by (hostRead a) buf s m code place good (same-checks ∙ e)
+  read-refused code place e = refused-by (hostRead a) buf s m code place good e
 
-  pub read-done : (out : List ℕ) → hostReadChecks (length (m .shadow)) (m .shadow) a (length buf) ≡ Pass → out ≡ sets buf 0 (slice (m .bytes) (a .0) (length buf))
+  pub read-done : (out : List ℕ) → hostReadChecks (length (m .bytes)) (m .shadow) a (length buf) ≡ Pass → out ≡ sets buf 0 (slice (m .bytes) (a .0) (length buf))
       → Meets (hostRead a) buf s m (done (value 0)) out m s
   unfolding given ownChecks effect emulatorOf writes stateWith filled edited bytesFrom
-  read-done out e f = accepted (hostRead a) buf s m out m s good (same-checks ∙ e) f refl refl
+  read-done out e f = accepted (hostRead a) buf s m out m s good e f refl refl
 
 -- ---- forget
 

@@ -7,3 +7,4 @@ pub mod DeviceTransfers
 pub mod StateCalls
 pub mod PartCalls
 pub mod Returned
+pub mod SameMarks

@@ -1,5 +1,5 @@
 -- Refusal 1, test by test.
-use Prim.Native.Nat.{_≤_}
+use Prim.Native.Nat.{_≤_, _*_}
 use mathlib.Core.Path.{_≡_, refl, sym, _∙_}
 use mathlib.Core.Bool.{Bool, true, false, not}
 use lib.ListN.{length}
@@ -10,7 +10,8 @@ use Rattle.answer.proofs.Tests.{and-true, and-false, and-second, first-not, sec
 use Rattle.address.specs.Address.{memoryLimit}
 use Rattle.iommu.specs.Table.{capacity, soundTable, inUse, Sound}
 use Rattle.iommu.proofs.Soundness.{sound-table}
-use Rattle.memory.specs.Shadow.{shadowLength}
+use Rattle.memory.specs.Shadow.{markBytes, shadowLength}
+use Rattle.memory.proofs.Marks.{due-room}
 use Rattle.memory.specs.Memory.{Memory}
 use Rattle.registers.specs.Cards.{isCard, wordRoom}
 use Rattle.registers.specs.File.{soundFile, fileOf}
@@ -86,12 +87,12 @@ module _ (s : State) (m : Memory) where
   pub record Ready : Type 0 where
     pub table : Sound (s .table)
     pub noted : length (m .bytes) ≡ s .«memory_length»
-    pub level : length (m .shadow) ≡ length (m .bytes)
+    pub room : length (m .bytes) ≤ 8 * markBytes (m .shadow)
     pub small : length (m .bytes) ≤ memoryLimit
     pub mappings : soundTable (length (m .bytes)) (inUse (s .table)) ≡ true
 
   pub ready : usable both (emulatorOf s m) ≡ true → Ready
-  unfolding usable emulatorOf asNoted lendable shadowLength machineOf sound soundCard soundLength soundMappings
+  unfolding usable emulatorOf asNoted lendable machineOf sound soundCard soundLength soundMappings
   ready h =
       let r = and-true _ _ h in
       let q = and-true _ _ (r .0) in
@@ -101,7 +102,7 @@ module _ (s : State) (m : Memory) where
       record {
         table = sound-ready s (r .1) .0;
         noted = noted;
-        level = eqb-true _ _ (l .0);
+        room = due-room (m .shadow) (length (m .bytes)) (eqb-true _ _ (and-true _ _ (l .0) .1));
         small = leb-true _ _ (l .1);
         mappings = rw noted (and-true _ _ (t .1) .1);
       }

@@ -8,7 +8,7 @@ use Rattle.answer.specs.Tests.{_and_, flagged}
 use Rattle.address.specs.Address.{memoryLimit}
 use Rattle.iommu.specs.Table.{capacity, soundTable, inUse}
 use Rattle.iommu.specs.declared.Mapping.{Mapping}
-use Rattle.memory.specs.Shadow.{shadowLength}
+use Rattle.memory.specs.Shadow.{marks, markBytes, shadowLength}
 use Rattle.memory.specs.Memory.{Memory}
 use Rattle.registers.specs.Cards.{wordsOf, isCard}
 use Rattle.registers.specs.File.{File, reset, soundFile, fileOf}
@@ -71,9 +71,11 @@ sound k = soundCard k and soundLength k and soundMappings k and soundRegisters k
 
 -- ---- refusal 1, on what a call is given
 
--- rules 1.3 and 2.6: there are as many marks as bytes, and at most 2^30
+-- rules 1.3 and 2.6: each byte has a mark, there are as many mark bytes as that takes, and at most 2^30 bytes
 unfoldable pub lendable : Memory → Bool
-lendable m = eqb (length (m .shadow)) (shadowLength (length (m .bytes))) and leb (length (m .bytes)) memoryLimit
+lendable m =
+    eqb (marks (m .shadow)) (length (m .bytes)) and eqb (markBytes (m .shadow)) (shadowLength (m .shadow) (length (m .bytes)))
+    and leb (length (m .bytes)) memoryLimit
 
 -- rule 2.6: memory has the noted length
 unfoldable pub asNoted : Emulator → Bool

@@ -79,7 +79,8 @@ pub fn sound(state: State) -> bool
 fn lendable(bytes: &[u8], shadow: &[u8]) -> bool
     ensures { λ r. ⌜ r ≡ canLend (lentMemory bytes shadow) ⌝ }
 {
-    if shadow.len() != bytes.len() {
+    // One mark byte for each eight bytes begun; no sum is made of a length that is not judged yet.
+    if shadow.len() != bytes.len() / 8 + (bytes.len() % 8 + 7) / 8 {
         return false;
     }
     bytes.len() as u64 <= address::MEMORY_LIMIT
@@ -108,7 +109,7 @@ pub fn power_on(state: State, card: Card, bytes: &[u8], shadow: &mut [u8]) -> Re
             state,
         };
     }
-    let n = shadow.len();
+    let n = bytes.len();
     memory::clear(shadow, 0, n);
     let mut next = state;
     next.memory_length = bytes.len() as u64;
@@ -180,7 +181,7 @@ pub fn host_read(
         return Answer::Refused(answer::BAD_BENCH, 0);
     }
     let n = buf.len();
-    let verdict = memory::check_host_read(shadow, a, n);
+    let verdict = memory::check_host_read(bytes.len() as u64, shadow, a, n);
     match verdict {
         Verdict::Fail(code, place) => Answer::Refused(code, place),
         Verdict::Pass => {
@@ -205,7 +206,7 @@ pub fn device_read(
         return Answer::Refused(answer::BAD_BENCH, 0);
     }
     let table = state.table;
-    let checked = dma::check_read(table, shadow, d, buf.len());
+    let checked = dma::check_read(table, bytes.len(), shadow, d, buf.len());
     let verdict = checked.verdict;
     match verdict {
         Verdict::Fail(code, place) => Answer::Refused(code, place),
@@ -230,7 +231,7 @@ pub fn device_write(
         return Answer::Refused(answer::BAD_BENCH, 0);
     }
     let table = state.table;
-    let checked = dma::check_write(table, shadow, d, buf.len());
+    let checked = dma::check_write(table, bytes.len(), shadow, d, buf.len());
     let verdict = checked.verdict;
     match verdict {
         Verdict::Fail(code, place) => Answer::Refused(code, place),

@@ -1,7 +1,6 @@
 -- Laws of the checks of host transfers and of an invalidation, by the tests that decide them.
 use Prim.Native.Nat.{ℕ, _+_, _≤_, _<_}
 use mathlib.Core.Path.{_≡_, refl, sym, _∙_}
-use mathlib.Core.List.{List}
 use borrow.Author.Tests.{lt-leb, le-leb, lt-ltb, le-ltb, leb-true}
 use Rattle.answer.specs.Codes.{Range, TooLong}
 use Rattle.answer.specs.Checks.{_then_}
@@ -10,6 +9,7 @@ use Rattle.answer.specs.declared.Verdict.the-variants.{Pass, Fail}
 use Rattle.answer.proofs.Checks.{then-pass, then-next, then-fail, when-true, when-false, unless-pass, unless-true, unless-false}
 use Rattle.address.specs.Address.{inMemoryRange}
 use Rattle.address.specs.declared.MemoryAddress.{MemoryAddress}
+use Rattle.memory.specs.Shadow.{Shadow}
 use Rattle.memory.specs.Transfers.{hostWriteChecks, hostReadChecks, invalidateChecks, unwrittenIn}
 
 module _ (size : ℕ) (a : MemoryAddress) (n : ℕ) where
@@ -32,15 +32,15 @@ module _ (size : ℕ) (a : MemoryAddress) (n : ℕ) where
   host-write-room h = leb-true _ _ (unless-pass _ _ (then-pass _ _ h .1))
 
   -- a read is checked as a write, and then its bytes must be written
-  pub host-read-checks : (shadow : List ℕ) → hostReadChecks size shadow a n ≡ (hostWriteChecks size a n then unwrittenIn shadow a n)
+  pub host-read-checks : (shadow : Shadow) → hostReadChecks size shadow a n ≡ (hostWriteChecks size a n then unwrittenIn shadow a n)
   unfolding hostReadChecks
   host-read-checks shadow = refl
 
-  pub host-read-written : (shadow : List ℕ) → hostWriteChecks size a n ≡ Pass → hostReadChecks size shadow a n ≡ unwrittenIn shadow a n
+  pub host-read-written : (shadow : Shadow) → hostWriteChecks size a n ≡ Pass → hostReadChecks size shadow a n ≡ unwrittenIn shadow a n
   host-read-written shadow h = host-read-checks shadow ∙ then-next _ _ h
 
-  pub host-read-fail : (shadow : List ℕ) (code place : ℕ) → hostWriteChecks size a n ≡ Fail code place → hostReadChecks size shadow a n ≡ Fail code place
+  pub host-read-fail : (shadow : Shadow) (code place : ℕ) → hostWriteChecks size a n ≡ Fail code place → hostReadChecks size shadow a n ≡ Fail code place
   host-read-fail shadow code place h = host-read-checks shadow ∙ then-fail _ _ code place h
 
-  pub host-read-room : (shadow : List ℕ) → hostReadChecks size shadow a n ≡ Pass → a .0 + n ≤ size
+  pub host-read-room : (shadow : Shadow) → hostReadChecks size shadow a n ≡ Pass → a .0 + n ≤ size
   host-read-room shadow h = host-write-room (then-pass _ _ (sym (host-read-checks shadow) ∙ h) .0)

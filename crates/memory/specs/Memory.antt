@@ -2,19 +2,19 @@
 use Prim.Native.Nat.{ℕ, zero, suc}
 use mathlib.Core.Bool.{Bool, true, false}
 use mathlib.Core.List.{List, [], _∷_}
-use lib.ListN.{getD, set}
+use lib.ListN.{length, getD, set}
 use Rattle.wire.specs.Field.{slice}
 use Rattle.address.specs.Address.{memoryOffset}
 use Rattle.address.specs.declared.MemoryAddress.{MemoryAddress}
-use Rattle.memory.specs.Shadow.{marked}
+use Rattle.memory.specs.Shadow.{Shadow, packed, marked}
 
 pub record Memory : Type 0 where
   pub bytes : List ℕ
-  pub shadow : List ℕ
+  pub shadow : Shadow
 
 -- the memory that two lent slices make
 abbrev pub memoryOf : List ℕ → List ℕ → Memory
-memoryOf bytes shadow = record { bytes = bytes; shadow = shadow }
+memoryOf bytes shadow = record { bytes = bytes; shadow = packed (length bytes) shadow }
 
 -- a byte stored, which makes it written (rules 4.6 and 4.7); or a byte's mark cleared, which keeps the byte (rule 4.9)
 pub data Edit : Type 0 where

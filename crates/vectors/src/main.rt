@@ -17,6 +17,9 @@ const DEVICE: u32 = 1;
 // Memory of two pages, with garbage in every byte.
 const SIZE: usize = 8192;
 
+// A mark byte for each eight of them.
+const MARKS: usize = 1024;
+
 const GARBAGE: u8 = 0xa5;
 
 // The name of a refusal that the worked values meet.
@@ -191,7 +194,7 @@ fn half_written(start: State, bytes: &mut [u8], shadow: &mut [u8]) {
 
 fn main() {
     let mut bytes = [GARBAGE; SIZE];
-    let mut shadow = [0u8; SIZE];
+    let mut shadow = [0u8; MARKS];
     let fresh = power_on(nothing(), &bytes, &mut shadow);
     region(fresh, &bytes, &shadow, 7);
     parts(fresh);

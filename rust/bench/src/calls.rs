@@ -40,8 +40,8 @@ pub enum Move {
 }
 
 impl Move {
-    /// `memcpy` of as many bytes in one piece, which checks nothing. A store sets as many marks
-    /// besides, so it has one with their `memset` too.
+    /// `memcpy` of as many bytes in one piece, which checks nothing. A store sets their marks
+    /// besides, an eighth as many bytes, so it has one with their `memset` too.
     pub fn copies(self) -> &'static [(&'static str, Program)] {
         match self {
             Move::CardRead | Move::HostLoad => LOADS,
@@ -136,7 +136,7 @@ fn copy_in(w: &mut World) -> Accepted {
 #[inline(always)]
 fn mark(w: &mut World) -> Accepted {
     let place = w.address.0 as usize;
-    w.marks.get_mut()[place..place + w.size].fill(1);
+    w.marks.get_mut()[place / 8..(place + w.size) / 8].fill(255);
     true
 }
 

@@ -7,8 +7,6 @@ use glintbasket::{
     MAPPINGS, MEMORY_LIMIT, PAGE_SIZE, TRANSFER_LIMIT,
 };
 
-const WRITTEN: u8 = 1;
-
 #[derive(Clone, Copy, Debug, PartialEq, Eq)]
 pub struct Refusal {
     pub code: u32,
@@ -74,7 +72,9 @@ fn sound_registers(registers: &Registers) -> bool {
 }
 
 fn usable(state: &State, memory: &[u8], marks: &[u8]) -> bool {
-    memory.len() == marks.len() && memory.len() as u64 == state.memory_length && sound(state)
+    memory.len().div_ceil(8) == marks.len()
+        && memory.len() as u64 == state.memory_length
+        && sound(state)
 }
 
 // ---- moves
@@ -118,19 +118,50 @@ fn runs(
     Ok(())
 }
 
-/// The first mark that does not say written. Whole blocks are judged without a way out, so that
-/// the compiler vectorises them.
-fn first_unwritten(marks: &[u8]) -> Option<usize> {
-    let blocks = marks.chunks_exact(128);
-    let good = blocks
-        .clone()
-        .take_while(|block| block.iter().fold(0, |bad, mark| bad | (mark ^ WRITTEN)) == 0)
-        .count();
-    let rest = good * 128;
-    marks[rest..]
+/// The marks of `n` bytes from a place on: the first mark byte with its bits from the place on, the
+/// last one with its bits before the end, and the bytes between.
+fn ends(place: usize, n: usize) -> ((usize, u8), (usize, u8)) {
+    let end = place + n;
+    (
+        (place / 8, !0 << (place % 8)),
+        (end / 8, (1 << (end % 8)) - 1),
+    )
+}
+
+/// Whether all are written. Whole mark bytes are judged without a way out, so that the compiler
+/// vectorises them.
+fn all_written(marks: &[u8], place: usize, n: usize) -> bool {
+    let ((first, head), (last, tail)) = ends(place, n);
+    if first == last {
+        return head & tail == 0 || marks[first] & head & tail == head & tail;
+    }
+    let whole = marks[first + 1..last]
         .iter()
-        .position(|mark| *mark != WRITTEN)
-        .map(|i| rest + i)
+        .fold(!0, |all, byte| all & byte);
+    marks[first] & head == head && whole == !0 && (tail == 0 || marks[last] & tail == tail)
+}
+
+/// The offset of the first of `n` bytes from a place on that is not written.
+fn first_unwritten(marks: &[u8], place: usize, n: usize) -> Option<usize> {
+    if all_written(marks, place, n) {
+        return None;
+    }
+    (0..n).find(|i| marks[(place + i) / 8] >> ((place + i) % 8) & 1 == 0)
+}
+
+fn set_written(marks: &mut [u8], place: usize, n: usize) {
+    let ((first, head), (last, tail)) = ends(place, n);
+    if first == last {
+        if head & tail > 0 {
+            marks[first] |= head & tail;
+        }
+        return;
+    }
+    marks[first] |= head;
+    marks[first + 1..last].fill(!0);
+    if tail > 0 {
+        marks[last] |= tail;
+    }
 }
 
 #[inline(never)]
@@ -153,7 +184,7 @@ pub fn card_read(
             if !rights.contains(Rights::READ) {
                 return at(15, offset as u64);
             }
-            match first_unwritten(&marks[place..place + n]) {
+            match first_unwritten(marks, place, n) {
                 Some(i) => at(16, (offset + i) as u64),
                 None => Ok(()),
             }
@@ -186,7 +217,7 @@ pub fn card_write(
     })?;
     runs(&state.table, device, bytes.len(), |offset, place, n, _| {
         memory[place..place + n].copy_from_slice(&bytes[offset..offset + n]);
-        marks[place..place + n].fill(WRITTEN);
+        set_written(marks, place, n);
         Ok(())
     })?;
     Ok(0)
@@ -215,7 +246,7 @@ pub fn host_store(
     }
     let place = check_host(memory.len(), address, bytes.len())?;
     memory[place..place + bytes.len()].copy_from_slice(bytes);
-    marks[place..place + bytes.len()].fill(WRITTEN);
+    set_written(marks, place, bytes.len());
     Ok(0)
 }
 
@@ -231,7 +262,7 @@ pub fn host_load(
         return refuse(1);
     }
     let place = check_host(memory.len(), address, buffer.len())?;
-    if let Some(i) = first_unwritten(&marks[place..place + buffer.len()]) {
+    if let Some(i) = first_unwritten(marks, place, buffer.len()) {
         return at(16, i as u64);
     }
     buffer.copy_from_slice(&memory[place..place + buffer.len()]);

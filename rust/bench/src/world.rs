@@ -3,7 +3,7 @@
 use std::hint::black_box;
 
 use glintbasket::raw::{self, SLOTS};
-use glintbasket::{kind, Bench, DeviceAddress, MemoryAddress, Rights, State};
+use glintbasket::{kind, marks_len, Bench, DeviceAddress, MemoryAddress, Rights, State};
 
 pub const PAGE: usize = 4096;
 const PAGES: usize = 64;
@@ -68,14 +68,14 @@ impl World {
         for (i, byte) in memory.get_mut().iter_mut().enumerate() {
             *byte = (i % 251) as u8;
         }
-        let mut marks = Aligned::filled(PAGES * PAGE, 1);
+        let mut marks = Aligned::filled(marks_len(PAGES * PAGE), 255);
         let mut bench = Bench::new(memory.get_mut(), marks.get_mut()).expect("a fresh start");
         // A single mapping shows all memory, and each of several one page.
         let pages = if held == 1 { PAGES } else { 1 };
         hold(&mut bench, held, pages);
         set_registers(&mut bench);
         let state = *bench.state();
-        marks.get_mut().fill(1);
+        marks.get_mut().fill(255);
         let shown = held * pages;
         let start = shown.saturating_sub(size.div_ceil(PAGE)) / 2;
         World {

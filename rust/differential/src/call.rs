@@ -54,11 +54,9 @@ pub enum Step {
         length: usize,
         seed: u64,
     },
-    /// Marks become this one, which is not 1.
-    Unmark {
-        from: usize,
-        length: usize,
-        mark: u8,
+    /// The bits of the marks past the noted length become others, by this seed.
+    PastEnd {
+        seed: u64,
     },
     /// The kept state becomes this one.
     Install(Box<State>),
@@ -69,7 +67,7 @@ pub enum Step {
 pub struct Made {
     pub call: Call,
     pub buffer: Vec<u8>,
-    /// How much of memory and of marks is lent.
+    /// How many bytes of memory and of marks are lent.
     pub lent: (usize, usize),
     /// A state to give in place of the kept one. What the call makes of it is kept only if a fresh
     /// start is accepted.
@@ -133,8 +131,8 @@ impl fmt::Display for Step {
             Step::Scribble { from, length, seed } => {
                 write!(f, "others write {length} bytes at {from} by {seed:#x}")
             }
-            Step::Unmark { from, length, mark } => {
-                write!(f, "{length} marks at {from} become {mark}")
+            Step::PastEnd { seed } => {
+                write!(f, "the bits past the end become others by {seed:#x}")
             }
             Step::Install(state) => write!(f, "the state becomes {}", Shown(state)),
         }

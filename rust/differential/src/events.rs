@@ -3,6 +3,7 @@
 
 use std::fmt::Write;
 
+use glint_reference::bench::mark_bytes;
 use glint_reference::bytes::number_at;
 use glintbasket::raw::SLOTS;
 
@@ -13,7 +14,7 @@ const TOP: u64 = 1 << 48;
 const LONGEST: usize = 65_536;
 
 #[rustfmt::skip]
-pub const EVENTS: [&str; 34] = [
+pub const EVENTS: [&str; 48] = [
     "card read of 65,536 bytes accepted",
     "card write of 65,536 bytes accepted",
     "host store of 65,536 bytes accepted",
@@ -37,7 +38,7 @@ pub const EVENTS: [&str; 34] = [
     "save into exactly enough room",
     "container 101 with 3 gives 1",
     "container 101 with another number gives 0",
-    "host load of a byte with a mark above 1 gives 16",
+    "fresh start with a bit set past the end accepted",
     "save of a state whose byte for running is above 1 accepted",
     "read of a register whose byte for set is above 1 gives 25",
     "queue of size 0 set",
@@ -48,7 +49,29 @@ pub const EVENTS: [&str; 34] = [
     "save of the second card",
     "load into the second card",
     "load of the other card's offered features gives 22",
+    "fresh start with a mark byte too few gives 1",
+    "fresh start with a mark byte too many gives 1",
+    "fresh start with as many mark bytes as memory bytes gives 1",
+    "fresh start on 8 n bytes accepted",
+    "fresh start on 8 n + 1 bytes accepted",
+    "fresh start on 8 n + 2 bytes accepted",
+    "fresh start on 8 n + 3 bytes accepted",
+    "fresh start on 8 n + 4 bytes accepted",
+    "fresh start on 8 n + 5 bytes accepted",
+    "fresh start on 8 n + 6 bytes accepted",
+    "fresh start on 8 n + 7 bytes accepted",
+    "host store up to the end, with a bit clear past it",
+    "forget up to the end, with a bit set past it",
+    "host store inside one mark byte",
 ];
+
+const FEW_MARKS: usize = 34;
+const MANY_MARKS: usize = 35;
+const WIDE_MARKS: usize = 36;
+const LENGTHS: usize = 37;
+const STORE_TO_END: usize = 45;
+const FORGET_TO_END: usize = 46;
+const STORE_WITHIN: usize = 47;
 
 pub struct Events {
     counts: [u64; EVENTS.len()],
@@ -149,7 +172,18 @@ impl Events {
             _ => 0,
         };
         let done = !matches!(answer, Answer::Refused { .. });
+        // The bits past the end, as the call left them.
+        let past: Vec<bool> = trio.bits_past_end();
         match made.call {
+            Call::FreshStart { .. } => {
+                self.saw(30, done && trio.state.words == 2);
+                let (memory, marks) = made.lent;
+                self.saw(23, done && past.contains(&true));
+                self.saw(FEW_MARKS, refused == 1 && marks + 1 == mark_bytes(memory));
+                self.saw(MANY_MARKS, refused == 1 && marks == mark_bytes(memory) + 1);
+                self.saw(WIDE_MARKS, refused == 1 && marks == memory);
+                self.saw(LENGTHS + memory % 8, done);
+            }
             Call::CardRead { device } | Call::CardWrite { device } => {
                 let write = matches!(made.call, Call::CardWrite { .. });
                 self.saw(0, done && !write && length == LONGEST);
@@ -170,13 +204,19 @@ impl Events {
             Call::HostStore { address } => {
                 self.saw(2, done && length == LONGEST);
                 self.saw(5, done && length == 0 && address == noted);
+                let end = address.wrapping_add(length as u64);
+                self.saw(
+                    STORE_TO_END,
+                    done && length > 0 && end == noted && past.contains(&false),
+                );
+                self.saw(
+                    STORE_WITHIN,
+                    done && address % 8 > 0 && length > 0 && end % 8 > address % 8 && length < 8,
+                );
             }
             Call::HostLoad { address } => {
                 self.saw(3, done && length == LONGEST);
                 self.saw(5, done && length == 0 && address == noted);
-                if let Answer::Refused { code: 16, place } = answer {
-                    self.saw(23, trio.mark(address + place) > 1);
-                }
             }
             Call::Request {
                 target: 0,
@@ -186,7 +226,12 @@ impl Events {
                 self.saw(22, *answer == Answer::Done(0));
             }
             Call::Forget { address, length } => {
-                self.saw(6, done && length == 0 && address == noted)
+                self.saw(6, done && length == 0 && address == noted);
+                let end = address.checked_add(length);
+                self.saw(
+                    FORGET_TO_END,
+                    done && length > 0 && end == Some(noted) && past.contains(&true),
+                );
             }
             Call::Request {
                 target: 0,
@@ -229,7 +274,6 @@ impl Events {
                 self.saw(29, done && has_empty_queue(trio));
                 self.saw(31, done && trio.state.words == 2);
             }
-            Call::FreshStart { .. } => self.saw(30, done && trio.state.words == 2),
             Call::SetRegister { kind: 0x104, .. } if length == 32 => {
                 let empty = made.buffer[..2] == [0, 0];
                 self.saw(26, done && empty);

@@ -1,6 +1,6 @@
 //! Makes lists of calls: each rule is tried at its edges, mostly with all else in order.
 
-use glint_reference::bench::PAGE;
+use glint_reference::bench::{mark_bytes, PAGE};
 use glintbasket::raw::SLOTS;
 use glintbasket::{Card, DeviceAddress, Mapping, MemoryAddress, Register, Rights, State, MAPPINGS};
 
@@ -33,7 +33,8 @@ impl Generator {
             0 => random.pick(&[0, 1, 4095]),
             1..=3 => 17 * 4096,
             4..=8 => random.pick(&[4096, 4097, 8191, 8193]),
-            9..=30 => 8192,
+            9..=23 => 8192,
+            24..=30 => 8192 + random.below(8) as usize,
             _ => random.pick(&[12288, 16384, 20480]),
         };
         Generator {
@@ -59,8 +60,7 @@ impl Generator {
         match self.steps {
             1 => {
                 let card = self.card();
-                let lent = (self.length, self.length);
-                return self.lend(Call::FreshStart { card }, Vec::new(), lent);
+                return self.lend(Call::FreshStart { card }, Vec::new(), self.length);
             }
             2 if self.random.below(3) > 0 => return self.install(trio),
             3 if self.random.below(2) > 0 => return self.store_all(trio),
@@ -68,7 +68,9 @@ impl Generator {
         }
         match self.random.below(1000) {
             0..=14 => self.scribble(trio),
-            15..=21 => self.unmark(trio),
+            15..=21 => Step::PastEnd {
+                seed: self.random.number(),
+            },
             22..=33 => self.install(trio),
             34..=37 => self.store_all(trio),
             38..=57 if trio.capacity() > LONGEST => {
@@ -84,22 +86,23 @@ impl Generator {
         }
     }
 
-    fn lend(&mut self, call: Call, buffer: Vec<u8>, lent: (usize, usize)) -> Step {
+    /// The call on the kept state, with memory of this length and its marks.
+    fn lend(&mut self, call: Call, buffer: Vec<u8>, length: usize) -> Step {
         Step::Make(Box::new(Made {
             call,
             buffer,
-            lent,
+            lent: (length, mark_bytes(length)),
             given: None,
         }))
     }
 
-    /// The call, mostly on the kept state with memory and marks of the noted length.
+    /// The call, mostly on the kept state with memory of the noted length and its marks.
     fn made(&mut self, trio: &Trio, call: Call, buffer: Vec<u8>) -> Step {
         let noted = (trio.state.noted_length as usize).min(trio.capacity());
         let mut made = Made {
             call,
             buffer,
-            lent: (noted, noted),
+            lent: (noted, mark_bytes(noted)),
             given: None,
         };
         if self.random.one_in(40)
@@ -127,12 +130,16 @@ impl Generator {
             _ => 0,
         };
         let one = near(&mut self.random);
-        match self.random.below(4) {
-            0 => (one, noted),
-            1 => (noted, one),
-            2 => (one, one),
-            _ => (one, near(&mut self.random)),
-        }
+        let marks = match self.random.below(8) {
+            0 => mark_bytes(noted),
+            1 => mark_bytes(one).saturating_sub(1),
+            2 => mark_bytes(one) + 1,
+            3 => one,
+            4 => one / 8,
+            5 => one / 8 + 1,
+            _ => mark_bytes(one),
+        };
+        (one, marks.min(mark_bytes(capacity)))
     }
 
     // ---- steps that are no calls
@@ -143,15 +150,6 @@ impl Generator {
             from,
             length: self.random.pick(&[1, 16, 4096, 8192]),
             seed: self.random.number(),
-        }
-    }
-
-    fn unmark(&mut self, trio: &Trio) -> Step {
-        let from = self.address(trio).min(trio.capacity() as u64 - 1) as usize;
-        Step::Unmark {
-            from,
-            length: self.random.pick(&[1, 2, 16, 4096]),
-            mark: self.random.pick(&[0, 2, 3, 129, 254, 255]),
         }
     }
 
@@ -223,7 +221,7 @@ impl Generator {
     fn store_all(&mut self, trio: &Trio) -> Step {
         let noted = (trio.state.noted_length as usize).min(trio.capacity());
         let bytes = self.random.bytes(noted.min(LONGEST));
-        self.lend(Call::HostStore { address: 0 }, bytes, (noted, noted))
+        self.lend(Call::HostStore { address: 0 }, bytes, noted)
     }
 
     // ---- calls
@@ -372,12 +370,12 @@ impl Generator {
         let random = &mut self.random;
         match random.below(20) {
             0 => noted.wrapping_add(random.pick(&[0, 0, 1, 2])),
-            1..=2 => noted.saturating_sub(random.pick(&[1, 2, 15, 16, 17, 64])),
+            1..=2 => noted.saturating_sub(random.pick(&[1, 2, 7, 8, 9, 15, 16, 17, 64])),
             3 => random.pick(&[u64::MAX, u64::MAX - 15, 1 << 63, 1 << 32, TOP]),
             4 => random.below(noted + 1),
             _ => {
                 let page = random.below((noted / PAGE).max(1)) * PAGE;
-                page + random.pick(&[0, 0, 0, 1, 2, 15, 16, 17, 64, 4080, 4095])
+                page + random.pick(&[0, 0, 0, 1, 2, 3, 7, 8, 9, 15, 16, 17, 64, 4080, 4095])
             }
         }
     }

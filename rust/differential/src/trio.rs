@@ -2,7 +2,7 @@
 
 use std::panic::{catch_unwind, AssertUnwindSafe};
 
-use glint_reference::bench;
+use glint_reference::bench::{self, is_written, mark, mark_bytes};
 use glintbasket::State;
 
 use crate::call::{Answer, Call, Made, Step};
@@ -39,13 +39,13 @@ pub struct Trio {
 pub type Fault = String;
 
 impl Trio {
-    /// Garbage in states and memory, and marks of every kind: a fresh start comes first.
+    /// Garbage in states, memory and marks: a fresh start comes first.
     pub fn new(capacity: usize, seed: u64, tamper: Tamper) -> Trio {
         let mut random = Random::new(seed);
         let mut state = State::default();
         garble(&mut state, &mut random);
         let memory = random.bytes(capacity);
-        let marks = random.bytes(capacity);
+        let marks = random.bytes(mark_bytes(capacity));
         let mut twin_state = state;
         garble(&mut twin_state, &mut random);
         Trio {
@@ -72,8 +72,11 @@ impl Trio {
         self.memory.len()
     }
 
-    pub fn mark(&self, address: u64) -> u8 {
-        self.marks[address as usize]
+    /// What stands in the last mark byte past the noted length.
+    pub fn bits_past_end(&self) -> Vec<bool> {
+        let noted = self.state.noted_length as usize;
+        let end = 8 * mark_bytes(noted).min(self.marks.len());
+        (noted..end).map(|i| is_written(&self.marks, i)).collect()
     }
 
     pub fn kept(&self) -> &State {
@@ -94,12 +97,19 @@ impl Trio {
                 self.scribble(*from, *length, *seed);
                 Ok(None)
             }
-            Step::Unmark { from, length, mark } => {
-                assert_ne!(*mark, 1);
-                let range = *from..(*from + *length).min(self.marks.len());
-                self.marks[range.clone()].fill(*mark);
-                self.emulator.marks[range.clone()].fill(*mark);
-                self.twin.marks[range].fill(*mark);
+            Step::PastEnd { seed } => {
+                let noted = (self.state.noted_length as usize).min(self.memory.len());
+                let others = Random::new(*seed).bytes(self.marks.len());
+                for i in noted..self.memory.len() {
+                    let written = is_written(&others, i);
+                    mark(&mut self.marks, i, written);
+                    mark(&mut self.emulator.marks, i, written);
+                    mark(&mut self.twin.marks, i, written);
+                    // A longer memory would have this byte, and the twin then the same.
+                    if written {
+                        self.twin.memory[i] = self.memory[i];
+                    }
+                }
                 Ok(None)
             }
             Step::Install(state) => {
@@ -114,9 +124,9 @@ impl Trio {
 
     fn scribble(&mut self, from: usize, length: usize, seed: u64) {
         let mut random = Random::new(seed);
-        let end = (from + length).min(self.marks.len());
+        let end = (from + length).min(self.memory.len());
         for i in from..end {
-            if self.marks[i] != bench::WRITTEN {
+            if !is_written(&self.marks, i) {
                 let byte = random.byte();
                 self.memory[i] = byte;
                 self.emulator.memory[i] = byte;
@@ -184,7 +194,10 @@ impl Trio {
             }
         }
         let twin_stale = twin_buffer.clone();
+        // The twin's bits past the end are others, for this one call.
+        self.twin.flip_past_end(made.lent);
         let (twin_answer, twin_left) = self.twin.make(made, &twin_given, &mut twin_buffer);
+        self.twin.flip_past_end(made.lent);
         check(twin_answer == expected, || {
             format!("other garbage: the emulator answers {twin_answer:x?}, not {expected:x?}")
         })?;
@@ -227,9 +240,9 @@ impl Trio {
     /// Where a byte is written the twin's memory has the same one; elsewhere its own stays.
     fn same_written(&self, before: &[u8]) -> bool {
         let mut bad = 0;
-        for i in 0..self.marks.len() {
+        for i in 0..self.memory.len() {
             let byte = self.twin.memory[i];
-            let good = if self.marks[i] == bench::WRITTEN {
+            let good = if is_written(&self.marks, i) {
                 self.memory[i]
             } else {
                 before[i]
@@ -241,6 +254,14 @@ impl Trio {
 }
 
 impl Side {
+    /// Turns every bit of the lent marks that has no byte of the lent memory.
+    fn flip_past_end(&mut self, lent: (usize, usize)) {
+        for i in lent.0..lent.1 * 8 {
+            let written = is_written(&self.marks, i);
+            mark(&mut self.marks, i, !written);
+        }
+    }
+
     fn make(&mut self, made: &Made, given: &State, buffer: &mut [u8]) -> (Answer, State) {
         let memory = &mut self.memory[..made.lent.0];
         let marks = &mut self.marks[..made.lent.1];
@@ -271,7 +292,7 @@ fn differs(what: &str, one: &[u8], other: &[u8]) -> Fault {
 fn twin_memory(memory: &[u8], marks: &[u8], random: &mut Random) -> Vec<u8> {
     let mut twin = random.bytes(memory.len());
     for i in 0..memory.len() {
-        if marks[i] == bench::WRITTEN {
+        if is_written(marks, i) {
             twin[i] = memory[i];
         }
     }

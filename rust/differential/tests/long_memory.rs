@@ -35,7 +35,7 @@ fn both(call: Call, length: usize, memory: &mut [u8], marks: &mut [u8]) -> Answe
 #[test]
 fn memory_may_have_2_to_the_30_bytes_and_not_one_more() {
     let refused = Answer::Refused { code: 1, place: 0 };
-    let (mut memory, mut marks) = (vec![0; LIMIT + 1], vec![0; LIMIT + 1]);
+    let (mut memory, mut marks) = (vec![0; LIMIT + 1], vec![0; LIMIT / 8 + 1]);
     let calls = [
         Call::Request {
             target: 0,
@@ -50,7 +50,7 @@ fn memory_may_have_2_to_the_30_bytes_and_not_one_more() {
     ];
     for call in calls {
         assert_eq!(both(call, LIMIT + 1, &mut memory, &mut marks), refused);
-        let (memory, marks) = (&mut memory[..LIMIT], &mut marks[..LIMIT]);
+        let (memory, marks) = (&mut memory[..LIMIT], &mut marks[..LIMIT / 8]);
         assert_ne!(both(call, LIMIT, memory, marks), refused, "{call:?}");
     }
     let start = Call::FreshStart {

@@ -33,6 +33,15 @@ impl DerefMut for Bytes<'_> {
     }
 }
 
+/// How many bytes the marks of so many bytes of memory take: eight marks to a byte.
+///
+/// ```
+/// assert_eq!(glintbasket::marks_len(11), 2);
+/// ```
+pub const fn marks_len(memory_len: usize) -> usize {
+    memory_len.div_ceil(8)
+}
+
 /// The target of a request.
 ///
 /// Any number can be asked for; a request on another target than these two is refused with
@@ -79,7 +88,7 @@ impl OwnedBench {
 
     /// The same of any card.
     pub fn with_memory_and_card(memory: Vec<u8>, card: Card) -> Result<OwnedBench> {
-        let marks = vec![0; memory.len()];
+        let marks = vec![0; marks_len(memory.len())];
         let mut bench = Bench {
             memory: Bytes::Owned(memory),
             marks: Bytes::Owned(marks),
@@ -91,9 +100,10 @@ impl OwnedBench {
 }
 
 impl<'m> Bench<'m> {
-    /// A fresh start of the card with 64 feature bits, on lent memory and marks. Memory bytes stay as they are; all marks become 0.
+    /// A fresh start of the card with 64 feature bits, on lent memory and marks. Memory bytes stay as they are; all marks become 0, and
+    /// the bits past the last one stay.
     ///
-    /// Refused: `BadBench` if the two differ in length or exceed 2^30 bytes.
+    /// Refused: `BadBench` if the marks are not [`marks_len`] bytes, or memory exceeds 2^30.
     pub fn new(memory: &'m mut [u8], marks: &'m mut [u8]) -> Result<Bench<'m>> {
         Bench::with_card(memory, marks, Card::default())
     }
@@ -126,7 +136,19 @@ impl<'m> Bench<'m> {
         &mut self.memory
     }
 
-    /// The marks: 1 for each byte of memory that somebody wrote by a call.
+    /// Whether somebody wrote the byte at a memory address, by a call. No byte past the end of memory is written.
+    pub fn is_written(&self, address: MemoryAddress) -> bool {
+        let Ok(at) = usize::try_from(address.0) else {
+            return false;
+        };
+        at < self.memory.len()
+            && self
+                .marks
+                .get(at / 8)
+                .is_some_and(|byte| byte >> (at % 8) & 1 == 1)
+    }
+
+    /// The marks as they are kept: bit i % 8 of byte i / 8 is 1 if byte i of memory is written. Bits past the end of memory mean nothing.
     pub fn marks(&self) -> &[u8] {
         &self.marks
     }

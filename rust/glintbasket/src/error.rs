@@ -27,7 +27,7 @@ macro_rules! refusals {
 }
 
 refusals! {
-    /// Memory and marks differ in length, exceed 2^30 or have not the noted length; or the kept state is not sound.
+    /// Marks are not as many as memory asks for, memory exceeds 2^30 bytes or has not the noted length, or the kept state is not sound.
     BadBench = 1,
     /// The target has no request of this number.
     NoSuchRequest = 2,

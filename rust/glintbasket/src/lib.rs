@@ -5,12 +5,12 @@
 //! fetches a byte which nobody wrote is refused, with the very offset of that byte.
 //!
 //! ```
-//! use glintbasket::{Bench, DeviceAddress, Error, MemoryAddress, Refusal, Rights};
+//! use glintbasket::{marks_len, Bench, DeviceAddress, Error, MemoryAddress, Refusal, Rights};
 //!
 //! fn main() -> Result<(), Error> {
-//!     // Two pages of memory, whose bytes nobody wrote, and a mark for each byte.
+//!     // Two pages of memory, whose bytes nobody wrote, and a mark for each byte, eight to a byte.
 //!     let mut memory = vec![0xa5; 8192];
-//!     let mut marks = vec![0; 8192];
+//!     let mut marks = vec![0; marks_len(8192)];
 //!     let mut bench = Bench::new(&mut memory, &mut marks)?;
 //!
 //!     // The driver shows the second page to the device, and puts a command of two bytes there.
@@ -86,7 +86,7 @@ pub mod raw;
 mod requests;
 
 pub use address::{DeviceAddress, MemoryAddress, Rights};
-pub use bench::{Bench, Location, OwnedBench, Target};
+pub use bench::{marks_len, Bench, Location, OwnedBench, Target};
 pub use card::Card;
 pub use error::{Error, Refusal, Result};
 pub use parts::{Part, Parts, PART_HEADER};

@@ -4,8 +4,8 @@ mod common;
 
 use common::{bench, refused, GARBAGE, PAGE};
 use glintbasket::{
-    Bench, DeviceAddress, Location, MemoryAddress, OwnedBench, Refusal, Rights, DEVICE_LIMIT,
-    MEMORY_LIMIT, TRANSFER_LIMIT,
+    marks_len, Bench, DeviceAddress, Location, MemoryAddress, OwnedBench, Refusal, Rights,
+    DEVICE_LIMIT, MEMORY_LIMIT, TRANSFER_LIMIT,
 };
 
 // ---- making a bench
@@ -13,34 +13,58 @@ use glintbasket::{
 #[test]
 fn new_clears_marks_and_keeps_bytes() {
     let mut memory = [GARBAGE; 100];
-    let mut marks = [1; 100];
+    let mut marks = [0xff; 13];
     let bench = Bench::new(&mut memory, &mut marks).unwrap();
     assert_eq!(bench.memory(), [GARBAGE; 100]);
-    assert_eq!(bench.marks(), [0; 100]);
+    assert_eq!(bench.marks()[..12], [0; 12]);
+    assert_eq!(bench.marks()[12], 0xf0);
     assert_eq!(bench.mappings(), []);
     assert!(!bench.is_running());
     assert_eq!(bench.state().memory_length, 100);
 }
 
 #[test]
-fn new_refuses_unequal_lengths_and_leaves_the_marks() {
+fn new_refuses_a_mark_byte_more_or_less_and_leaves_the_marks() {
     let mut memory = [0; 100];
-    let mut marks = [1; 99];
-    assert_eq!(
-        Bench::new(&mut memory, &mut marks).map(drop),
-        refused(Refusal::BadBench, 0)
-    );
-    assert_eq!(marks, [1; 99]);
+    for length in [0, 12, 14, 100] {
+        let mut marks = vec![1; length];
+        assert_eq!(
+            Bench::new(&mut memory, &mut marks).map(drop),
+            refused(Refusal::BadBench, 0)
+        );
+        assert_eq!(marks, vec![1; length]);
+    }
+    for length in 0..=100 {
+        let mut marks = vec![0; marks_len(length)];
+        assert!(Bench::new(&mut memory[..length], &mut marks).is_ok());
+    }
+}
+
+/// Rule 7.23: no call changes the bits past the end.
+#[test]
+fn bits_past_the_end_are_kept() {
+    let (mut memory, mut marks) = ([GARBAGE; 11], [0xff, 0xff]);
+    let mut bench = Bench::new(&mut memory, &mut marks).unwrap();
+    assert_eq!(bench.marks(), [0x00, 0xf8]);
+    bench.host_write(MemoryAddress(7), b"ab").unwrap();
+    assert_eq!(bench.marks(), [0x80, 0xf9]);
+    let written = |address| bench.is_written(MemoryAddress(address));
+    assert_eq!([6, 7, 8, 9].map(written), [false, true, true, false]);
+    assert_eq!([11, 15, 16, u64::MAX].map(written), [false; 4]);
+    bench.host_write(MemoryAddress(0), &[1; 11]).unwrap();
+    assert_eq!(bench.marks(), [0xff, 0xff]);
+    bench.invalidate(MemoryAddress(0), 11).unwrap();
+    assert_eq!(bench.marks(), [0x00, 0xf8]);
 }
 
 #[test]
 fn lent_memory_has_what_was_written_when_the_bench_is_gone() {
     let mut memory = [0; 4];
-    let mut marks = [0; 4];
+    let mut marks = [0; 1];
     let mut bench = Bench::new(&mut memory, &mut marks).unwrap();
     bench.host_write(MemoryAddress(1), b"xy").unwrap();
     assert_eq!(&memory, b"\0xy\0");
-    assert_eq!(marks, [0, 1, 1, 0]);
+    assert_eq!(marks, [0b0110]);
 }
 
 #[test]
@@ -68,7 +92,7 @@ fn bench_without_memory_moves_no_bytes() {
 #[test]
 fn resume_goes_on_from_a_state() {
     let mut memory = [GARBAGE; PAGE as usize];
-    let mut marks = [0; PAGE as usize];
+    let mut marks = [0; marks_len(PAGE as usize)];
     let mut bench = Bench::new(&mut memory, &mut marks).unwrap();
     let read = Rights::READ;
     bench
@@ -86,7 +110,7 @@ fn resume_goes_on_from_a_state() {
 #[test]
 fn resume_of_an_unsound_state_is_refused_by_every_call_but_power_on() {
     let mut memory = [0; 16];
-    let mut marks = [0; 16];
+    let mut marks = [0; 2];
     let mut state = *Bench::new(&mut memory, &mut marks).unwrap().state();
     state.table.count = 65;
     let mut bench = Bench::resume(&mut memory, &mut marks, state);
@@ -245,8 +269,9 @@ fn device_write_stores_in_offset_order_and_marks() {
     bytes.push(b'z');
     assert_eq!(bench.device_write(DeviceAddress(0), &bytes), Ok(()));
     assert_eq!(bench.memory()[..3], *b"zaa");
-    assert_eq!(bench.marks()[..PAGE as usize], [1; PAGE as usize]);
-    assert_eq!(bench.marks()[PAGE as usize..], [0; PAGE as usize]);
+    let (first, second) = bench.marks().split_at(marks_len(PAGE as usize));
+    assert!(first.iter().all(|byte| *byte == 0xff));
+    assert!(second.iter().all(|byte| *byte == 0));
 }
 
 #[test]
@@ -260,7 +285,7 @@ fn device_write_refused_leaves_memory_and_marks() {
         refused(Refusal::Unmapped, 1)
     );
     assert_eq!(bench.memory(), [GARBAGE; PAGE as usize]);
-    assert_eq!(bench.marks(), [0; PAGE as usize]);
+    assert_eq!(bench.marks(), [0; marks_len(PAGE as usize)]);
 
     bench
         .map(MemoryAddress(0), DeviceAddress(PAGE), PAGE, Rights::READ)
@@ -316,12 +341,12 @@ fn invalidate_clears_marks_and_keeps_bytes() {
     let mut bench = bench(1);
     bench.host_write(MemoryAddress(0), b"abc").unwrap();
     assert_eq!(bench.invalidate(MemoryAddress(1), 1), Ok(()));
-    assert_eq!(bench.marks()[..4], [1, 0, 1, 0]);
+    assert_eq!(bench.marks()[0], 0b0101);
     assert_eq!(bench.memory()[..3], *b"abc");
     assert_eq!(bench.invalidate(MemoryAddress(PAGE), 0), Ok(()));
     assert_eq!(
         bench.invalidate(MemoryAddress(1), u64::MAX),
         refused(Refusal::Range, 0)
     );
-    assert_eq!(bench.marks()[..4], [1, 0, 1, 0]);
+    assert_eq!(bench.marks()[0], 0b0101);
 }

@@ -1,6 +1,6 @@
 //! What a bench's memory holds, page by page, once a session is played.
 
-use glintbasket::{Bench, Mapping, Rights, PAGE_SIZE};
+use glintbasket::{Bench, Mapping, MemoryAddress, Rights, PAGE_SIZE};
 
 /// How much of a stretch of memory was written by calls and not forgotten since.
 #[derive(Clone, Copy, Debug, PartialEq, Eq)]
@@ -22,12 +22,11 @@ pub struct Stretch {
 
 impl Stretch {
     fn of(bench: &Bench, start: u64, length: u64) -> Stretch {
-        let marks = &bench.marks()[start as usize..(start + length) as usize];
         let mappings = bench.mappings().iter().enumerate();
         Stretch {
             start,
             length,
-            written_bytes: marks.iter().filter(|&&mark| mark == 1).count() as u64,
+            written_bytes: written_bytes(bench, start, length),
             mappings: mappings
                 .filter(|(_, mapping)| shows(mapping, start, length))
                 .map(|(index, _)| index)
@@ -116,6 +115,18 @@ pub fn range(start: u64, size: u64) -> String {
     format!("{start:#x}..{:#x}", start + (size - 1))
 }
 
+fn is_written(bench: &Bench, address: u64) -> bool {
+    bench.is_written(MemoryAddress(address))
+}
+
+/// How many bytes of a stretch are written. It starts at a page, so whole mark bytes are counted, and single marks behind them.
+fn written_bytes(bench: &Bench, start: u64, length: u64) -> u64 {
+    let (end, whole) = (start + length, (start + length) / 8);
+    let bytes = &bench.marks()[(start / 8) as usize..whole as usize];
+    let ones: u64 = bytes.iter().map(|byte| u64::from(byte.count_ones())).sum();
+    ones + (whole * 8..end).filter(|at| is_written(bench, *at)).count() as u64
+}
+
 /// How many bytes stand in the row around a refused byte.
 const ROW: u64 = 16;
 
@@ -124,7 +135,7 @@ pub fn row_around(bench: &Bench, address: u64) -> (u64, Vec<Option<u8>>) {
     let start = address - address % ROW;
     let end = (start + ROW).min(bench.memory().len() as u64);
     let bytes = (start as usize..end as usize)
-        .map(|at| (bench.marks()[at] == 1).then(|| bench.memory()[at]))
+        .map(|at| is_written(bench, at as u64).then(|| bench.memory()[at]))
         .collect();
     (start, bytes)
 }
@@ -132,11 +143,11 @@ pub fn row_around(bench: &Bench, address: u64) -> (u64, Vec<Option<u8>>) {
 #[cfg(test)]
 mod tests {
     use super::*;
-    use glintbasket::{DeviceAddress, MemoryAddress};
+    use glintbasket::DeviceAddress;
 
     /// Four pages and a half: the second is written in part, the third wholly; the second and third are mapped.
     fn with_bench(test: impl FnOnce(&Bench)) {
-        let (mut memory, mut marks) = (vec![0; 0x4800], vec![0; 0x4800]);
+        let (mut memory, mut marks) = (vec![0; 0x4800], vec![0; 0x4800 / 8]);
         let mut bench = Bench::new(&mut memory, &mut marks).unwrap();
         let (low, high) = (MemoryAddress(0x1000), MemoryAddress(0x2000));
         bench.host_write(MemoryAddress(0x1ffe), &[7, 8]).unwrap();

@@ -2,9 +2,11 @@
 
 use crate::answer::Answer;
 use crate::session::{output_size, Call, Pattern, Session, Step};
-use glintbasket::{Bench, Card, DeviceAddress, Error, MemoryAddress, Parts, Refusal, Target};
+use glintbasket::{
+    marks_len, Bench, Card, DeviceAddress, Error, MemoryAddress, Parts, Refusal, Target,
+};
 
-/// A bench's memory and marks, of which each byte starts as the session's garbage says.
+/// A bench's memory, each byte of which starts as the session's garbage says, and its marks.
 pub struct Store {
     memory: Vec<u8>,
     marks: Vec<u8>,
@@ -18,7 +20,7 @@ impl Store {
         let size = session.memory_size;
         Ok(Store {
             memory: filled(size, garbage)?,
-            marks: filled(size, 0)?,
+            marks: filled(marks_len(size), 0)?,
             garbage,
             card: session.card,
         })
@@ -28,7 +30,7 @@ impl Store {
     pub fn player(&mut self) -> Player<'_> {
         let garbage = self.garbage;
         let bench = Bench::with_card(&mut self.memory, &mut self.marks, self.card)
-            .expect("memory and marks of one length within the limit");
+            .expect("memory within the limit, with its marks");
         Player { bench, garbage }
     }
 }

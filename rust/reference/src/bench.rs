@@ -14,10 +14,25 @@ pub const LENGTH_LIMIT: usize = 65_536;
 pub const READ: u64 = 1;
 pub const WRITE: u64 = 2;
 
-/// The mark of a written byte; every other mark means unwritten.
-pub const WRITTEN: u8 = 1;
-/// The mark that a fresh start and forget leave.
-pub const FORGOTTEN: u8 = 0;
+/// How many mark bytes a memory of this length has: one for each eight bytes begun.
+pub fn mark_bytes(memory: usize) -> usize {
+    memory / 8 + usize::from(memory % 8 > 0)
+}
+
+/// The marks in a mark byte, the lowest bit first.
+const BITS: [u8; 8] = [1, 2, 4, 8, 16, 32, 64, 128];
+
+/// What the mark of the byte at a place says. Only here and in [`mark`] are marks packed.
+pub fn is_written(marks: &[u8], place: usize) -> bool {
+    marks[place / 8] & BITS[place % 8] != 0
+}
+
+/// Makes the byte at a place written, or not.
+pub fn mark(marks: &mut [u8], place: usize, written: bool) {
+    if is_written(marks, place) != written {
+        marks[place / 8] ^= BITS[place % 8];
+    }
+}
 
 /// What the card uses (an IOVA).
 #[derive(Clone, Copy, Debug, PartialEq, Eq)]
@@ -171,7 +186,7 @@ impl State {
 
 /// The causes of refusal 1 that a fresh start knows, too.
 fn check_lengths(memory: usize, marks: usize) -> Answer<()> {
-    refuse_if(memory != marks, Refusal::BadBench)?;
+    refuse_if(marks != mark_bytes(memory), Refusal::BadBench)?;
     refuse_if(memory as u128 > MEMORY_LIMIT, Refusal::BadBench)
 }
 
@@ -183,8 +198,8 @@ pub fn fresh_start(
     marks: &mut [u8],
 ) -> Answer<u64> {
     check_lengths(memory.len(), marks.len())?;
-    for mark in marks.iter_mut() {
-        *mark = FORGOTTEN;
+    for place in 0..memory.len() {
+        mark(marks, place, false);
     }
     *state = State::fresh_card(words, memory.len() as u64);
     Ok(0)
@@ -243,7 +258,7 @@ mod tests {
     fn every_call_but_a_fresh_start_refuses_an_unsound_state() {
         let before = unsound();
         let mut state = unsound();
-        let (mut memory, mut marks) = (vec![7; 8_192], vec![1; 8_192]);
+        let (mut memory, mut marks) = (vec![7; 8_192], vec![255; 1_024]);
         let buffer = &mut [0xa5; 64];
         let (device, address) = (DeviceAddress(0), MemoryAddress(0));
         let answers = [
@@ -268,7 +283,7 @@ mod tests {
             assert_eq!(*answer, BAD_BENCH, "call {i}");
         }
         assert_eq!(state, before);
-        assert_eq!((memory, marks), (vec![7; 8_192], vec![1; 8_192]));
+        assert_eq!((memory, marks), (vec![7; 8_192], vec![255; 1_024]));
         assert_eq!(*buffer, [0xa5; 64]);
     }
 
@@ -278,11 +293,13 @@ mod tests {
         let state = State::fresh(8_192);
         let bytes = vec![0; 8_193];
         let lengths = [
-            (8_191, 8_192),
-            (8_192, 8_191),
-            (8_193, 8_193),
+            (8_191, 1_024),
+            (8_192, 1_023),
+            (8_192, 1_025),
+            (8_192, 8_192),
+            (8_193, 1_025),
             (0, 0),
-            (8_191, 8_191),
+            (8_184, 1_023),
         ];
         for (memory, marks) in lengths {
             let answer = state.check_bench(&bytes[..memory], &bytes[..marks]);
@@ -292,16 +309,16 @@ mod tests {
                 "{memory} and {marks}"
             );
         }
-        assert_eq!(state.check_bench(&bytes[..8_192], &bytes[..8_192]), Ok(()));
+        assert_eq!(state.check_bench(&bytes[..8_192], &bytes[..1_024]), Ok(()));
     }
 
     /// Rule 1.3: 2^30 is allowed, one more is not; 0 is allowed.
     #[test]
     fn memory_has_at_most_2_to_the_30_bytes() {
         let limit = 1 << 30;
-        assert_eq!(check_lengths(limit, limit), Ok(()));
+        assert_eq!(check_lengths(limit, limit / 8), Ok(()));
         assert_eq!(
-            check_lengths(limit + 1, limit + 1),
+            check_lengths(limit + 1, limit / 8 + 1),
             Err(Refusal::BadBench.into())
         );
         assert_eq!(check_lengths(0, 0), Ok(()));
@@ -313,21 +330,37 @@ mod tests {
         let mut state = unsound();
         state.running = true;
         let memory = vec![7; 100];
-        let mut marks = vec![255; 100];
+        let mut marks = vec![255; 13];
         assert_eq!(fresh_start(&mut state, 1, &memory, &mut marks), Ok(0));
         assert_eq!(state, State::fresh(100));
         assert!(!state.running);
         assert_eq!(memory, vec![7; 100]);
-        assert_eq!(marks, vec![0; 100]);
+        assert_eq!(marks[..12], [0; 12]);
+        assert_eq!(marks[12], 0xf0);
     }
 
     #[test]
     fn a_refused_fresh_start_changes_nothing() {
         let mut state = unsound();
-        let mut marks = vec![1; 99];
+        let mut marks = vec![1; 14];
         assert_eq!(fresh_start(&mut state, 1, &[7; 100], &mut marks), BAD_BENCH);
         assert_eq!(state, unsound());
-        assert_eq!(marks, vec![1; 99]);
+        assert_eq!(marks, vec![1; 14]);
+    }
+
+    /// Rules 1.3 and 7.23: a mark byte for each eight bytes begun, and bits past the end are kept.
+    #[test]
+    fn marks_are_packed_lowest_bit_first() {
+        assert_eq!([0, 1, 7, 8, 9, 11].map(mark_bytes), [0, 1, 1, 1, 2, 2]);
+        let mut state = unsound();
+        let mut marks = [0xff, 0xff];
+        assert_eq!(fresh_start(&mut state, 1, &[7; 11], &mut marks), Ok(0));
+        assert_eq!(marks, [0x00, 0xf8]);
+        mark(&mut marks, 1, true);
+        mark(&mut marks, 8, true);
+        mark(&mut marks, 8, true);
+        assert_eq!(marks, [0x02, 0xf9]);
+        assert!(is_written(&marks, 1) && !is_written(&marks, 2));
     }
 
     /// Rule 1.12: each cause by itself; adjoining is apart, and no sum wraps.

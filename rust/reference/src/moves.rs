@@ -2,8 +2,7 @@
 
 use crate::answer::{refuse_if, Answer, Refusal};
 use crate::bench::{
-    DeviceAddress, MemoryAddress, State, DEVICE_LIMIT, FORGOTTEN, LENGTH_LIMIT, READ, WRITE,
-    WRITTEN,
+    is_written, mark, DeviceAddress, MemoryAddress, State, DEVICE_LIMIT, LENGTH_LIMIT, READ, WRITE,
 };
 
 /// The memory address and the rights that a device address has, if a mapping holds it.
@@ -40,8 +39,8 @@ fn card_places(
         let (memory, rights) = translate(state, address).ok_or(Refusal::Unmapped.at(offset))?;
         refuse_if(rights & right == 0, Refusal::NoRight.at(offset))?;
         if let Some(marks) = marks_to_read {
-            let mark = marks[memory.0 as usize];
-            refuse_if(mark != WRITTEN, Refusal::Unwritten.at(offset))?;
+            let written = is_written(marks, memory.0 as usize);
+            refuse_if(!written, Refusal::Unwritten.at(offset))?;
         }
         places.push(memory.0 as usize);
     }
@@ -75,7 +74,7 @@ pub fn card_write(
     let places = card_places(state, device, bytes.len(), WRITE, None)?;
     for (offset, place) in places.into_iter().enumerate() {
         memory[place] = bytes[offset];
-        marks[place] = WRITTEN;
+        mark(marks, place, true);
     }
     Ok(0)
 }
@@ -100,7 +99,7 @@ pub fn host_store(
     check_host_range(memory, address, bytes.len() as u64)?;
     for (offset, byte) in bytes.iter().enumerate() {
         memory[address.0 as usize + offset] = *byte;
-        marks[address.0 as usize + offset] = WRITTEN;
+        mark(marks, address.0 as usize + offset, true);
     }
     Ok(0)
 }
@@ -116,8 +115,8 @@ pub fn host_load(
     refuse_if(buffer.len() > LENGTH_LIMIT, Refusal::TooLong)?;
     check_host_range(memory, address, buffer.len() as u64)?;
     for offset in 0..buffer.len() {
-        let mark = marks[address.0 as usize + offset];
-        refuse_if(mark != WRITTEN, Refusal::Unwritten.at(offset as u64))?;
+        let written = is_written(marks, address.0 as usize + offset);
+        refuse_if(!written, Refusal::Unwritten.at(offset as u64))?;
     }
     for (offset, byte) in buffer.iter_mut().enumerate() {
         *byte = memory[address.0 as usize + offset];
@@ -136,7 +135,7 @@ pub fn forget(
     state.check_bench(memory, marks)?;
     check_host_range(memory, address, length)?;
     for offset in 0..length as usize {
-        marks[address.0 as usize + offset] = FORGOTTEN;
+        mark(marks, address.0 as usize + offset, false);
     }
     Ok(0)
 }
@@ -145,7 +144,7 @@ pub fn forget(
 mod tests {
     use super::*;
     use crate::answer::Refused;
-    use crate::bench::Mapping;
+    use crate::bench::{mark_bytes, Mapping};
 
     const LIMIT: u64 = 1 << 48;
 
@@ -170,7 +169,7 @@ mod tests {
         Bench {
             state,
             memory: vec![0xa5; length],
-            marks: vec![0; length],
+            marks: vec![0; mark_bytes(length)],
         }
     }
 
@@ -289,7 +288,7 @@ mod tests {
             refused(Refusal::Unmapped, 1)
         );
         assert_eq!(bench.memory, vec![0xa5; 4_096]);
-        assert_eq!(bench.marks, vec![0; 4_096]);
+        assert_eq!(bench.marks, vec![0; 512]);
     }
 
     #[test]
@@ -353,7 +352,7 @@ mod tests {
         assert_eq!(bench.host_load(101, 0), refused(Refusal::Range, 0));
         assert_eq!(bench.forget(100, 0), Ok(0));
         assert_eq!(bench.forget(101, 0), refused(Refusal::Range, 0));
-        assert_eq!(bench.marks, vec![0; 100]);
+        assert_eq!(bench.marks, vec![0; 13]);
     }
 
     /// Rule 4.8: the offset inside the transfer, not the memory address.
@@ -380,16 +379,16 @@ mod tests {
         assert_eq!(bench.memory[10..14], [7; 4]);
     }
 
-    /// Rule 1.4: only mark 1 means written.
+    /// Rules 1.4 and 1.16: each mark by itself, over the edges of mark bytes; bits past the end stay.
     #[test]
-    fn marks_other_than_1_mean_unwritten() {
-        let mut bench = bench(4_096, &[(0, 0, 4_096, 3)]);
-        bench.marks[..3].copy_from_slice(&[1, 2, 255]);
-        assert_eq!(bench.card_read(0, 2), refused(Refusal::Unwritten, 1));
-        assert_eq!(bench.host_load(2, 1), refused(Refusal::Unwritten, 0));
-        assert_eq!(bench.forget(1, 1), Ok(0));
-        assert_eq!(bench.host_store(2, &[9]), Ok(0));
-        assert_eq!(bench.marks[..4], [1, 0, 1, 0]);
+    fn moves_touch_the_marks_of_their_bytes_alone() {
+        let mut bench = bench(21, &[]);
+        bench.marks = vec![0b0000_0101, 0, 0b1010_0000];
+        assert_eq!(bench.host_load(0, 3), refused(Refusal::Unwritten, 1));
+        assert_eq!(bench.host_store(7, &[9; 10]), Ok(0));
+        assert_eq!(bench.marks, [0b1000_0101, 0b1111_1111, 0b1010_0001]);
+        assert_eq!(bench.forget(8, 13), Ok(0));
+        assert_eq!(bench.marks, [0b1000_0101, 0, 0b1010_0000]);
     }
 
     #[test]

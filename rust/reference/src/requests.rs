@@ -215,6 +215,7 @@ fn reset_device(state: &mut State) -> Answer<u64> {
 #[cfg(test)]
 mod tests {
     use super::*;
+    use crate::bench::mark_bytes;
     use crate::registers::set_register;
 
     const GARBAGE: u8 = 0xa5;
@@ -226,7 +227,8 @@ mod tests {
     /// A request on a sound bench, whose memory is not looked at.
     fn ask(state: &mut State, target: u64, number: u64, buffer: &mut [u8]) -> Answer<u64> {
         let bytes = vec![0; state.noted_length as usize];
-        request(state, &bytes, &bytes, target, number, buffer)
+        let marks = vec![0; mark_bytes(bytes.len())];
+        request(state, &bytes, &marks, target, number, buffer)
     }
 
     /// A buffer of garbage with these fields: offset, width, number.

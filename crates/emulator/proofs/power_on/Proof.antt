@@ -5,7 +5,7 @@ use Rattle.answer.proofs.Tests.{found-false, found-true}
 use Rattle.emulator.specs.Machine.{usable, emulatorOf}
 use Rattle.emulator.specs.Calls.{given}
 use Rattle.emulator.proofs.Meets.{bad-bench}
-use Rattle.emulator.proofs.PowerOn.{power-done}
+use Rattle.emulator.proofs.PowerOn.{power-room, power-done}
 use Rattle.emulator.proofs.power_on.Statement.{statement}
 use Rattle.emulator.proofs.power_on.Tie as tie
 
@@ -20,7 +20,7 @@ unfolding given usable emulatorOf
 returns c = bad-bench _ _ _ _ (found-false (c .before .lendable .ensures) (c .if1 .taken))
 
 clear-requires : tie.Need-clear-requires
-clear-requires c κs = search needs
+clear-requires c κs = power-room _ (found-true (c .before .before .lendable .ensures) (c .before .if1 .left))
 
 reset-requires : tie.Need-reset-requires
 reset-requires c κs = search needs

@@ -2,13 +2,14 @@
 //!
 //! A [`Bench`](crate::Bench) keeps the state and turns answers into errors; it stands on these functions and is what most programs
 //! want. Here the caller lends memory and marks to each call, hands it a state, and gets an answer as the library gives it. Nothing is
-//! asked of the caller: any state, any lengths and any numbers get an answer.
+//! asked of the caller: any state, any lengths and any numbers get an answer. Marks are [`marks_len`](crate::marks_len) bytes; other lengths
+//! are refused.
 //!
 //! ```
 //! use glintbasket::raw::{self, State};
-//! use glintbasket::{Card, MemoryAddress, Refusal};
+//! use glintbasket::{marks_len, Card, MemoryAddress, Refusal};
 //!
-//! let (mut memory, mut marks) = (vec![0xa5; 4096], vec![0; 4096]);
+//! let (mut memory, mut marks) = (vec![0xa5; 4096], vec![0; marks_len(4096)]);
 //! let state = raw::power_on(&State::default(), Card::Features64, &memory, &mut marks).state;
 //! raw::host_write(&state, &mut memory, &mut marks, MemoryAddress(0), b"go");
 //!

@@ -4,7 +4,7 @@ use std::io::{self, Write};
 
 use super::{Call, Session};
 use crate::answer::Answer;
-use crate::bench::{fresh_start, start, stop, DeviceAddress, MemoryAddress, State};
+use crate::bench::{fresh_start, mark_bytes, start, stop, DeviceAddress, MemoryAddress, State};
 use crate::moves::{card_read, card_write, forget, host_load, host_store, look_up};
 use crate::parts::{load_parts, save_parts, step};
 use crate::registers::{read_register, set_register};
@@ -37,7 +37,7 @@ impl Player {
         Player {
             state: State::fresh_card(session.card, session.memory_size as u64),
             memory: vec![session.garbage; session.memory_size],
-            marks: vec![0; session.memory_size],
+            marks: vec![0; mark_bytes(session.memory_size)],
             garbage: session.garbage,
         }
     }
