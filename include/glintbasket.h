@@ -298,6 +298,16 @@ glint_kept glint_start(glint_state state);
 /* One step over a stream from `place` on. Refused, with the step's place: 18, 19. */
 glint_part_step glint_step(const uint8_t *stream, size_t stream_length, size_t place);
 
+/*
+ * Whether a stream, of any length, is what saving writes: GLINT_IS_SAVE if some register state of the card saves to these very bytes. Any
+ * other number is the length of the stream's longest beginning with which some save begins, at most GLINT_SAVED_MAX: it is the place of
+ * the first byte that no save has there, or the stream's length if it ends too early. The first is for the card with 64 feature bits, the
+ * second for the card with 128.
+ */
+#define GLINT_IS_SAVE UINT64_MAX
+uint64_t glint_check_save(const uint8_t *stream, size_t stream_length);
+uint64_t glint_check_save_128(const uint8_t *stream, size_t stream_length);
+
 /* ---- requests */
 
 /* Targets of glint_request. */
@@ -692,6 +702,22 @@ static inline glint_part_step glint_walker_step(glint_walker *walker, const uint
     }
     walker->place = (size_t)step.next;
     return step;
+}
+
+/* ---- what a partner sends */
+
+/*
+ * glint_check_save and glint_check_save_128 where the stream may be null: with length 0 it is the empty stream. With a length above 0 the
+ * library is not called, and the answer is 0: no byte was there to agree.
+ */
+static inline uint64_t glint_check_stream(const void *stream, size_t length)
+{
+    return glint_is_null(stream, length) ? 0 : glint_check_save(glint_bytes(stream), length);
+}
+
+static inline uint64_t glint_check_stream_128(const void *stream, size_t length)
+{
+    return glint_is_null(stream, length) ? 0 : glint_check_save_128(glint_bytes(stream), length);
 }
 
 #ifdef __cplusplus

@@ -645,6 +645,10 @@ static void null_pointers(void)
     glint_part_step step = glint_walker_step(&walker, &value, &length);
     CHECK(step.refused && !step.end && step.code == GLINT_NULL_POINTER && step.next == 0);
     CHECK(value == &byte && length == 99 && walker.place == 0);
+
+    // No bytes are the empty stream, of which no byte is wrong and no save is made.
+    CHECK(glint_check_stream(NULL, 0) == 0 && glint_check_stream_128(NULL, 0) == 0);
+    CHECK(glint_check_stream(NULL, 17) == 0 && glint_check_stream_128(NULL, 17) == 0);
 }
 
 // A refused call that fills a struct leaves the caller's as it was.

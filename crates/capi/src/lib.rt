@@ -14,7 +14,9 @@ ghost use mathlib.Core.Path.{_≡_};
 ghost use mathlib.Core.List.{List, []};
 ghost use Rattle.address.specs.Address.{deviceAddress, memoryAddress};
 ghost use Rattle.memory.specs.Memory.{Memory};
+ghost use Rattle.registers.specs.Cards.{wordsOf};
 ghost use Rattle.registers.specs.declared.Card.the-variants.{Features64, Features128};
+ghost use Rattle.conformance.specs.Saves.{NumberAnswers};
 ghost use Rattle.emulator.specs.Calls.{powerOn, request, lookUp, deviceRead, deviceWrite, hostWrite, hostRead, invalidate, setRegister, readRegister, loadParts, saveParts, stop, start};
 ghost use Rattle.emulator.specs.Contract.{lentMemory, leftMemory, remarkedMemory, told, toldLocation};
 ghost use Rattle.capi.specs.Structs.{success as succeeded, refusal as refused, answerStruct, foundStruct, noPart, keptBy};
@@ -365,4 +367,21 @@ pub extern "C" fn glint_step(stream: &[u8], place: usize) -> PartStep
         Step::End => no_part(false, 0, 0, place),
         Step::Refused(code, at) => no_part(true, code, at, place),
     }
+}
+
+// Whether a stream is what saving writes on the card with 64 feature bits: 2^64 - 1 says yes; any other number is the length of its longest
+// beginning with which some save begins.
+#[no_mangle]
+pub extern "C" fn glint_check_save(stream: &[u8]) -> u64
+    ensures { λ r. ⌜ NumberAnswers (wordsOf Features64) (now (stream .entry)) r ⌝ }
+{
+    conformance::check_number(Card::Features64, stream)
+}
+
+// The same on the card with 128.
+#[no_mangle]
+pub extern "C" fn glint_check_save_128(stream: &[u8]) -> u64
+    ensures { λ r. ⌜ NumberAnswers (wordsOf Features128) (now (stream .entry)) r ⌝ }
+{
+    conformance::check_number(Card::Features128, stream)
 }

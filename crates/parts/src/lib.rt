@@ -113,7 +113,7 @@ pub struct Loaded {
 const RESERVED_KINDS: u64 = 0x600;
 
 // Offered features are flagged optional, and no other listed type.
-fn flags_of(kind: u64) -> u8
+pub fn flags_of(kind: u64) -> u8
     ensures { λ r. ⌜ r ≡ flagsOf kind ⌝ }
 {
     if kind == registers::OFFERED_FEATURES {

@@ -57,7 +57,8 @@ offered-take w (suc n) le = go (eqb w (suc n)) refl (offered-take w n)
         let l : w ≤ n = omega (arith, eqb-false w (suc n) e) in
         take-append-le (8 * w) (offered n) _ (omega (arith, offered-length n)) ∙ rest l
 
-word-at : (i w : ℕ) → i < w → field (offered w) (8 * i) 8 ≡ offeredWord i
+-- each word of what is offered
+pub word-at : (i w : ℕ) → i < w → field (offered w) (8 * i) 8 ≡ offeredWord i
 unfolding offered
 word-at = last-or-before (λ i w. field (offered w) (8 * i) 8 ≡ offeredWord i) last before
   where

@@ -38,10 +38,10 @@ use Rattle.registers.proofs.Values.{value-size}
 abbrev pub absent : Register
 absent = record { set = 0; bytes = [] }
 
-none≢some : {X : Type 0} {v : X} → none ≡ some v → ⊥
+pub none≢some : {X : Type 0} {v : X} → none ≡ some v → ⊥
 none≢some e = let z : _≡_ {A = ℕ} 0 1 = cc in omega arith
 
-some-same : {X : Type 0} {v w : X} → some v ≡ some w → v ≡ w
+pub some-same : {X : Type 0} {v w : X} → some v ≡ some w → v ≡ w
 some-same e = cc
 
 -- ---- one register
@@ -145,7 +145,7 @@ file-written w i (some v ∷ file) h =
 
 -- ---- soundness
 
-passes-true : (v : Verdict) → passes v ≡ true → v ≡ Pass
+pub passes-true : (v : Verdict) → passes v ≡ true → v ≡ Pass
 unfolding passes
 passes-true Pass h = refl
 passes-true (Fail code place) h = absurd (false≢true h)

@@ -5,7 +5,7 @@ use native.Mathlib.Omega.{arith}
 use mathlib.Core.Path.{_≡_, refl, sym, _∙_, ap}
 use mathlib.Core.Bool.{true, false}
 use mathlib.Core.List.{List, [], _∷_}
-use mathlib.Core.Option.{none, some}
+use mathlib.Core.Option.{Option, none, some}
 use lib.ListN.{getD, set}
 use Rattle.answer.specs.Tests.{_and_, pick, isSome}
 use Rattle.answer.specs.Checks.{_then_, _when_, _unless_, passes}
@@ -36,13 +36,17 @@ passing : (w i : ℕ) (v : List ℕ) → valueChecks w i false v ≡ Pass → so
 unfolding soundValue passes
 passing w i v h = rw h
 
-pub sound-set : (w i : ℕ) (file : File) (k : ℕ) (v : List ℕ) → soundValuesFrom w i file ≡ true → valueChecks w (i + k) false v ≡ Pass → soundValuesFrom w i (set file k (some v)) ≡ true
-sound-set w i [] k v h good = h
-sound-set w i (x ∷ file) zero v h good =
-    sound-cons w i (some v) file ∙ and-made _ _ (passing w i v (rw add-zero at good)) (and-true _ _ (sym (sound-cons w i x file) ∙ h) .1)
-sound-set w i (x ∷ file) (suc k) v h good =
+-- a row that gets a value that is accepted, or none
+pub sound-put : (w i : ℕ) (file : File) (k : ℕ) (y : Option (List ℕ)) → soundValuesFrom w i file ≡ true → soundValue w (i + k) y ≡ true
+    → soundValuesFrom w i (set file k y) ≡ true
+sound-put w i [] k y h good = h
+sound-put w i (x ∷ file) zero y h good = sound-cons w i y file ∙ and-made _ _ (rw add-zero at good) (and-true _ _ (sym (sound-cons w i x file) ∙ h) .1)
+sound-put w i (x ∷ file) (suc k) y h good =
     let b = and-true _ _ (sym (sound-cons w i x file) ∙ h) in
-    sound-cons w i x _ ∙ and-made _ _ (b .0) (sound-set w (suc i) file k v (b .1) (rw (suc-add, ← add-suc) good))
+    sound-cons w i x _ ∙ and-made _ _ (b .0) (sound-put w (suc i) file k y (b .1) (rw (suc-add, ← add-suc) good))
+
+pub sound-set : (w i : ℕ) (file : File) (k : ℕ) (v : List ℕ) → soundValuesFrom w i file ≡ true → valueChecks w (i + k) false v ≡ Pass → soundValuesFrom w i (set file k (some v)) ≡ true
+sound-set w i file k v h good = sound-put w i file k (some v) h (passing w (i + k) v good)
 
 -- a row that has a value keeps one
 pub some-set : (file : File) (k j : ℕ) (v : List ℕ) → isSome (getD file j none) ≡ true → isSome (getD (set file k (some v)) j none) ≡ true

@@ -241,7 +241,7 @@ fn are_offered(words: u8, exact: bool, v: &[u8]) -> bool
 }
 
 // A power of two from 1 to 256: one of its binary digits is 1.
-fn is_power_of_two(n: u16) -> bool
+pub fn is_power_of_two(n: u16) -> bool
     ensures { λ r. ⌜ r ≡ powerOfTwo 8 n ⌝ }
 {
     if 256 < n {

@@ -4,6 +4,7 @@
 #![forbid(unsafe_code)]
 
 mod calls;
+mod check_save;
 mod measures;
 mod plain;
 mod rival;
@@ -36,6 +37,7 @@ pub fn measure_all(rivals: &[Rival]) {
     for measure in measures() {
         show(measure, rivals);
     }
+    check_save::show();
 }
 
 fn show(mut measure: Measure, rivals: &[Rival]) {

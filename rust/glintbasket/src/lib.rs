@@ -79,6 +79,7 @@
 mod address;
 mod bench;
 mod card;
+mod check_save;
 mod error;
 mod parts;
 #[allow(unsafe_code)]
@@ -88,6 +89,7 @@ mod requests;
 pub use address::{DeviceAddress, MemoryAddress, Rights};
 pub use bench::{marks_len, Bench, Location, OwnedBench, Target};
 pub use card::Card;
+pub use check_save::{check_save, SaveCheck};
 pub use error::{Error, Refusal, Result};
 pub use parts::{Part, Parts, PART_HEADER};
 #[doc(inline)]

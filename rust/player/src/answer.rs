@@ -1,6 +1,6 @@
 //! What a call answered, and how it is printed.
 
-use glintbasket::{Error, Location};
+use glintbasket::{Error, Location, SaveCheck};
 use std::fmt;
 
 /// What a call answered.
@@ -18,6 +18,7 @@ pub enum Answer {
         value: Vec<u8>,
     },
     End,
+    Checked(SaveCheck),
     Refused(Error),
 }
 
@@ -41,6 +42,8 @@ impl fmt::Display for Answer {
                 write!(f, "next {next} : {}", Pairs(value))
             }
             Answer::End => write!(f, "end"),
+            Answer::Checked(SaveCheck::Save) => write!(f, "save"),
+            Answer::Checked(SaveCheck::DiffersAt(place)) => write!(f, "differs at {place}"),
             Answer::Refused(error) => {
                 let (refusal, place) = (error.refusal, error.place);
                 write!(

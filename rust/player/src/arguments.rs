@@ -1,12 +1,14 @@
 //! The command line.
 
 use crate::session::byte;
+use glintbasket::Card;
 use std::ffi::{OsStr, OsString};
 use std::path::PathBuf;
 
 pub const USAGE: &str = "\
 usage: glintbasket play [--garbage BYTE] [--twice] FILE
        glintbasket show [--garbage BYTE] [--svg OUT] FILE
+       glintbasket check-save [--card CARD] FILE
        glintbasket --help | --version
 ";
 
@@ -15,23 +17,30 @@ Glintbasket plays session files on a verified emulator of the host side of VFIO.
 
 usage: glintbasket play [--garbage BYTE] [--twice] FILE
        glintbasket show [--garbage BYTE] [--svg OUT] FILE
+       glintbasket check-save [--card CARD] FILE
        glintbasket --help | --version
 
 play    plays FILE and prints one line for each call
 show    plays FILE and prints a map of its memory, the mappings and the last
         refused byte; only calls that differ from what is expected are printed
+check-save
+        says whether the bytes of FILE are what saving writes; if not, the place
+        of the first byte that no save has there, in which part and field
 
   --garbage BYTE   what each byte of memory, of an output buffer and each stale
                    byte starts as, instead of what FILE says (default 0xa5)
   --twice          plays FILE under two garbages, of which one is the complement
                    of the other, and compares every line
   --svg OUT        writes the map as a picture, too
+  --card CARD      the card whose saves are meant, 64 or 128 by the number of its
+                   feature bits (default 64)
   --help, -h       prints this
   --version, -V    prints the version
 
 Exit status:
-  0  played, and every expectation is met
-  1  played, but an expectation is not met, or the two plays differ
+  0  played, and every expectation is met; or FILE is a save
+  1  played, but an expectation is not met, or the two plays differ; or FILE is
+     no save
   2  not played: FILE has faults or cannot be read, or the command line is wrong
   3  what was played could not be written
 ";
@@ -50,6 +59,10 @@ pub enum Command {
         garbage: Option<u8>,
         svg: Option<PathBuf>,
     },
+    CheckSave {
+        file: PathBuf,
+        card: Card,
+    },
 }
 
 /// What stands on the command line behind the program's name, or what is wrong with it.
@@ -61,6 +74,7 @@ pub fn read(arguments: impl IntoIterator<Item = OsString>) -> Result<Command, St
         Some("--version" | "-V") => alone(arguments, Command::Version),
         Some("play") => Options::read(arguments)?.play(),
         Some("show") => Options::read(arguments)?.show(),
+        Some("check-save") => Options::read(arguments)?.check_save(),
         _ => Err(format!("{command:?} is no command")),
     }
 }
@@ -81,6 +95,7 @@ struct Options {
     garbage: Option<u8>,
     twice: bool,
     svg: Option<PathBuf>,
+    card: Option<Card>,
 }
 
 impl Options {
@@ -108,6 +123,7 @@ impl Options {
         match flag.to_str() {
             Some("--garbage") => put(&mut self.garbage, garbage(&value()?)?, "--garbage"),
             Some("--svg") => put(&mut self.svg, value()?.into(), "--svg"),
+            Some("--card") => put(&mut self.card, card(&value()?)?, "--card"),
             Some("--twice") => {
                 self.twice = true;
                 Ok(())
@@ -127,6 +143,7 @@ impl Options {
         if self.svg.is_some() {
             return Err("--svg goes with show".to_string());
         }
+        self.no_card()?;
         Ok(Command::Play {
             file: self.file.ok_or("FILE is missing")?,
             garbage: self.garbage,
@@ -141,11 +158,42 @@ impl Options {
         if self.twice {
             return Err("--twice goes with play".to_string());
         }
+        self.no_card()?;
         Ok(Command::Show {
             file: self.file.ok_or("FILE is missing")?,
             garbage: self.garbage,
             svg: self.svg,
         })
+    }
+
+    fn check_save(self) -> Result<Command, String> {
+        if self.help {
+            return Ok(Command::Help);
+        }
+        if self.garbage.is_some() || self.twice || self.svg.is_some() {
+            return Err("--garbage, --twice and --svg go with sessions".to_string());
+        }
+        Ok(Command::CheckSave {
+            file: self.file.ok_or("FILE is missing")?,
+            card: self.card.unwrap_or_default(),
+        })
+    }
+
+    /// A session names its cards itself.
+    fn no_card(&self) -> Result<(), String> {
+        match self.card {
+            Some(_) => Err("--card goes with check-save".to_string()),
+            None => Ok(()),
+        }
+    }
+}
+
+/// Of which card a save is asked for.
+fn card(value: &OsStr) -> Result<Card, String> {
+    match value.to_str() {
+        Some("64") => Ok(Card::Features64),
+        Some("128") => Ok(Card::Features128),
+        _ => Err("--card: a card is 64 or 128, by the number of its feature bits".to_string()),
     }
 }
 

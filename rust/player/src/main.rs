@@ -2,6 +2,7 @@
 
 mod answer;
 mod arguments;
+mod check_save;
 mod map_svg;
 mod map_text;
 mod pages;
@@ -79,6 +80,12 @@ fn run(command: Command) -> Result<bool, Failure> {
         Command::Show { file, garbage, svg } => {
             show(&mut out, &file, &session(&file, garbage)?, svg.as_deref())?
         }
+        Command::CheckSave { file, card } => {
+            let stream = read_file(&file)?;
+            let found = check_save::Finding::of(card, &stream);
+            writeln!(out, "{found}")?;
+            found.is_save()
+        }
     };
     out.flush()?;
     Ok(met)
@@ -87,8 +94,7 @@ fn run(command: Command) -> Result<bool, Failure> {
 /// The session of a file, with the command line's garbage if there is one.
 fn session(path: &Path, garbage: Option<u8>) -> Result<Session, Failure> {
     let name = path.display();
-    let bytes = file_bytes(path)
-        .map_err(|wrong| Failure::NotPlayed(message(format!("{name}: {wrong}"))))?;
+    let bytes = read_file(path)?;
     let mut session = session::read(&bytes).map_err(|faults| {
         let lines = faults.iter().map(|fault| format!("{name}:{fault}\n"));
         Failure::NotPlayed(lines.collect())
@@ -97,11 +103,16 @@ fn session(path: &Path, garbage: Option<u8>) -> Result<Session, Failure> {
     Ok(session)
 }
 
+fn read_file(path: &Path) -> Result<Vec<u8>, Failure> {
+    let name = path.display();
+    file_bytes(path).map_err(|wrong| Failure::NotPlayed(message(format!("{name}: {wrong}"))))
+}
+
 fn file_bytes(path: &Path) -> Result<Vec<u8>, String> {
     let tell = |error: io::Error| error.to_string();
     let file = File::open(path).map_err(tell)?;
     if file.metadata().map_err(tell)?.is_dir() {
-        return Err("is a directory, not a session file".to_string());
+        return Err("is a directory, not a file".to_string());
     }
     let mut bytes = Vec::new();
     file.take(FILE_MAX + 1)

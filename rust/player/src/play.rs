@@ -3,7 +3,7 @@
 use crate::answer::Answer;
 use crate::session::{output_size, Call, Pattern, Session, Step};
 use glintbasket::{
-    marks_len, Bench, Card, DeviceAddress, Error, MemoryAddress, Parts, Refusal, Target,
+    check_save, marks_len, Bench, Card, DeviceAddress, Error, MemoryAddress, Parts, Refusal, Target,
 };
 
 /// A bench's memory, each byte of which starts as the session's garbage says, and its marks.
@@ -171,6 +171,10 @@ impl<'m> Player<'m> {
             Call::Stop => bench.stop().map(|()| done),
             Call::Start => bench.start().map(|()| done),
             Call::Step(place, stream) => part_at(*place, &stream.fill(self.garbage)),
+            Call::CheckSave(card, stream) => {
+                let stream = stream.fill(self.garbage);
+                Ok(Answer::Checked(check_save(*card, &stream)))
+            }
         }
     }
 

@@ -177,7 +177,7 @@ fn files_that_cannot_be_read_are_told() {
     let missing = run(&["play", path("missing.session").to_str().unwrap()]);
     assert_not_played(&missing, "missing.session: No such file");
     let directory = run(&["play", env!("CARGO_TARGET_TMPDIR")]);
-    assert_not_played(&directory, "is a directory, not a session file");
+    assert_not_played(&directory, "is a directory, not a file");
 }
 
 #[test]
@@ -419,4 +419,62 @@ fn a_closed_pipe_is_told() {
         let output = child.wait_with_output().unwrap();
         assert_not_written(&output, "glintbasket: standard output: Broken pipe");
     }
+}
+
+// ---- check-save
+
+/// A file of bytes.
+fn save_file(name: &str, bytes: &[u8]) -> String {
+    let path = path(name);
+    std::fs::write(&path, bytes).unwrap();
+    path.to_str().unwrap().to_string()
+}
+
+#[test]
+fn a_file_is_a_save_or_the_byte_is_told() {
+    let mut bytes = vec![0, 1, 1, 0, 0, 0, 0, 0, 0, 0, 0, 0, 8, 0, 0, 0];
+    bytes.extend([0, 0, 0, 0x30, 1, 0, 0, 0]);
+    bytes.extend([3, 1, 0, 0, 0, 0, 0, 0, 0, 0, 0, 0, 1, 0, 0, 0, 0x0f]);
+    let save = save_file("good.save", &bytes);
+    assert_run(&run(&["check-save", &save]), 0, "save\n", "");
+    assert_run(
+        &run(&["check-save", "--card", "64", &save]),
+        0,
+        "save\n",
+        "",
+    );
+    let other = "no save: byte 12 is 0x08, which no save has there: \
+                 the length of offered features, in the part at 0\n";
+    assert_run(&run(&["check-save", &save, "--card", "128"]), 1, other, "");
+    let short = save_file("short.save", &bytes[..24]);
+    let ends = "no save: it ends after 24 bytes, where every save goes on: \
+                the type, in the part at 24\n";
+    assert_run(&run(&["check-save", &short]), 1, ends, "");
+}
+
+#[test]
+fn wrong_command_lines_of_check_save_are_told() {
+    for (arguments, why) in [
+        (&["check-save"][..], "FILE is missing"),
+        (
+            &["check-save", "--card", "65", "x"],
+            "--card: a card is 64 or 128, by the number of its feature bits",
+        ),
+        (
+            &["check-save", "--twice", "x"],
+            "--garbage, --twice and --svg go with sessions",
+        ),
+        (
+            &["play", "--card", "64", "x"],
+            "--card goes with check-save",
+        ),
+        (
+            &["show", "--card", "64", "x"],
+            "--card goes with check-save",
+        ),
+    ] {
+        assert_not_played(&run(arguments), &format!("glintbasket: {why}\n"));
+    }
+    let missing = run(&["check-save", path("missing.save").to_str().unwrap()]);
+    assert_not_played(&missing, "missing.save: No such file");
 }

@@ -10,7 +10,7 @@
 //! | [`answer`] | 2 |
 //! | [`requests`] | 3 |
 //! | [`moves`] | 4 |
-//! | [`registers`], [`parts`] | 5 and 6 |
+//! | [`registers`], [`parts`], [`check_save`] | 5 and 6 |
 //! | [`session`] | none: docs/session-format.md |
 
 #![forbid(unsafe_code)]
@@ -18,6 +18,7 @@
 pub mod answer;
 pub mod bench;
 pub mod bytes;
+pub mod check_save;
 pub mod moves;
 pub mod parts;
 pub mod registers;

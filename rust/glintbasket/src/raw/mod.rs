@@ -28,8 +28,10 @@
 // none; what is lent as `&mut` overlaps nothing else. All other values may be any. The library keeps no pointer, and writes to nothing that
 // is lent as `&`.
 
+mod check_save;
 mod structs;
 
+pub use check_save::{check_save, IS_SAVE};
 pub use structs::{
     Found, Kept, Mapping, Outcome, PartStep, Register, Registers, State, Table, REGISTERS, SLOTS,
 };

@@ -36,10 +36,11 @@ pub enum Call {
     Stop,
     Start,
     Step(u64, Pattern),
+    CheckSave(Card, Pattern),
 }
 
 /// The first words of calls, and their forms.
-const FORMS: [(&str, &str); 15] = [
+const FORMS: [(&str, &str); 16] = [
     ("power-on", "`power-on [card CARD]`"),
     ("request", "`request TARGET NUMBER BYTES`"),
     ("look-up", "`look-up DEVICE`"),
@@ -55,6 +56,7 @@ const FORMS: [(&str, &str); 15] = [
     ("stop", "`stop`"),
     ("start", "`start`"),
     ("step", "`step PLACE BYTES`"),
+    ("check-save", "`check-save [card CARD] BYTES`"),
 ];
 
 /// The call of a line; none if one of its words has a fault.
@@ -121,6 +123,10 @@ fn arguments(name: &str, words: &mut Words) -> Option<Call> {
         "step" => {
             let (place, stream) = (words.number(&Number::any("PLACE")), given(words));
             Some(Call::Step(place?, stream))
+        }
+        "check-save" => {
+            let card = super::card(words).unwrap_or_default();
+            Some(Call::CheckSave(card, given(words)))
         }
         _ => unreachable!("FORMS has no other call"),
     }

@@ -222,6 +222,15 @@ fn every_call_is_read() {
     assert_eq!(call("stop"), Call::Stop);
     assert_eq!(call("start"), Call::Start);
     assert!(matches!(call("step 17 -"), Call::Step(17, _)));
+    let checked = |line| match call(line) {
+        Call::CheckSave(card, stream) => (card, stream.fill(0)),
+        other => panic!("{other:?}"),
+    };
+    assert_eq!(checked("check-save -"), (Card::Features64, vec![]));
+    assert_eq!(
+        checked("check-save card 128 00 01"),
+        (Card::Features128, vec![0, 1])
+    );
 }
 
 #[test]

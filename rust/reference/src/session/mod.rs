@@ -86,6 +86,10 @@ pub enum Call {
         place: u64,
         stream: Vec<u8>,
     },
+    CheckSave {
+        card: Words,
+        stream: Vec<u8>,
+    },
 }
 
 /// Something in a session file that is not as the format says.

@@ -5,6 +5,7 @@ use std::io::{self, Write};
 use super::{Call, Session};
 use crate::answer::Answer;
 use crate::bench::{fresh_start, mark_bytes, start, stop, DeviceAddress, MemoryAddress, State};
+use crate::check_save::{check_save, SaveCheck};
 use crate::moves::{card_read, card_write, forget, host_load, host_store, look_up};
 use crate::parts::{load_parts, save_parts, step};
 use crate::registers::{read_register, set_register};
@@ -120,6 +121,10 @@ impl Player {
             Call::Stop => number(stop(&mut self.state)),
             Call::Start => number(start(&mut self.state)),
             Call::Step { place, stream } => walker_step(*place, stream),
+            Call::CheckSave { card, stream } => match check_save(*card, stream) {
+                SaveCheck::Save => "save".to_string(),
+                SaveCheck::DiffersAt(place) => format!("differs at {place}"),
+            },
         }
     }
 

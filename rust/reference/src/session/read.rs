@@ -14,7 +14,7 @@ const DEFAULT_GARBAGE: u8 = 0xa5;
 
 const CALLS: &str = "power-on, request, look-up, card-read, card-write, host-store, host-load, \
                      forget, set-register, read-register, load-parts, save-parts, stop, start, \
-                     step";
+                     step, check-save";
 
 /// Reads a file's bytes.
 pub fn read(file: &[u8]) -> Result<Session, Vec<Fault>> {
@@ -354,6 +354,10 @@ impl Arguments {
             "start" => Call::Start,
             "step" => Call::Step {
                 place: self.number("PLACE"),
+                stream: self.bytes(),
+            },
+            "check-save" => Call::CheckSave {
+                card: self.card(),
                 stream: self.bytes(),
             },
             _ => {
