@@ -6,21 +6,22 @@
  * The first half of this file declares the library: structs, constants and functions. The second half is a thin layer over it,
  * struct glint_bench and the functions glint_bench_*, which keeps the state for the caller. Most programs need the second half alone:
  *
+ *     static glint_mapping records[64];
  *     static uint8_t memory[8192], marks[GLINT_MARKS(8192)];
  *     static glint_bench bench;
- *     glint_bench_init(&bench, memory, marks, sizeof memory);
+ *     glint_bench_init(&bench, records, GLINT_COUNT(records), memory, marks, sizeof memory);
  *     glint_bench_map(&bench, glint_memory(0), glint_device(0x10000), 4096, GLINT_READ);
  *     glint_bench_host_write(&bench, glint_memory(0), "ab", 2);
  *     glint_outcome o = glint_bench_device_read(&bench, glint_device(0x10000), buffer, 3);
  *     // o.refused, o.code is GLINT_UNWRITTEN and o.place is 2: nobody wrote the third byte.
  *
  * What remains for the caller, because no call can test it:
- *   1. A pointer leads to as many bytes as its length says, which may be read or, where the parameter is not const, written. The
- *      functions of the first half take no null pointer, also where the length is 0; those of the second half take one for no bytes,
- *      and refuse one with a length above 0 (GLINT_NULL_POINTER).
- *   2. Memory, marks, the buffer of one call and a struct that a pointer leads to do not overlap.
+ *   1. A pointer leads to as many bytes or records as its length says, which may be read or, where the parameter is not const, written;
+ *      of records and states it is aligned as C asks. The functions of the first half take no null pointer, also where the length is 0;
+ *      those of the second half take one for length 0, and refuse one with a length above 0 (GLINT_NULL_POINTER).
+ *   2. Records, memory, marks, the buffer of one call and a struct that a pointer leads to do not overlap.
  *   3. A bench, a state and what is lent with it are used by one thread at a time.
- * All else may be any: every byte of a state, every number, length and order of calls has an answer.
+ * All else may be any: every byte of a state and of a record, every number, length and order of calls has an answer.
  */
 #ifndef GLINTBASKET_H
 #define GLINTBASKET_H
@@ -40,7 +41,7 @@ extern "C" {
 /* ---- limits */
 
 #define GLINT_PAGE_SIZE 4096u
-#define GLINT_MAPPINGS 64u                        /* mappings that a table holds */
+#define GLINT_RECORDS_LIMIT 4096u                 /* records that may be lent, and so mappings that are held */
 #define GLINT_REGISTERS 14u                       /* registers that are kept */
 #define GLINT_DEVICE_LIMIT UINT64_C(0x1000000000000) /* device addresses lie below */
 #define GLINT_MEMORY_LIMIT UINT64_C(0x40000000)   /* memory has at most so many bytes */
@@ -51,12 +52,15 @@ extern "C" {
 /* Bytes that the marks of `length` bytes of memory take: eight marks to a byte. */
 #define GLINT_MARKS(length) ((length) / 8 + ((length) % 8 != 0))
 
+/* How many elements an array has, as its length is lent. Not for a pointer. */
+#define GLINT_COUNT(array) (sizeof(array) / sizeof(array)[0])
+
 /* ---- refusals */
 
 /* The numbers of the refusals. A comment with "place" says what the place of such a refusal is; else it is 0. */
 enum glint_refusal {
     GLINT_NULL_POINTER = 0,    /* of this header alone: a null pointer with a length above 0; the library was not called */
-    GLINT_BAD_BENCH = 1,       /* memory and marks do not fit each other or the state, or the state is not sound */
+    GLINT_BAD_BENCH = 1,       /* records, memory and marks do not fit each other or the state, or the state or a record in use is not sound */
     GLINT_NO_SUCH_REQUEST = 2, /* the target has no request of this number */
     GLINT_SHORT = 3,           /* buffer shorter than the request's size */
     GLINT_ARG_SIZE = 4,        /* argsz below the request's size or above the buffer's length */
@@ -66,7 +70,7 @@ enum glint_refusal {
     GLINT_EMPTY = 8,           /* size 0 */
     GLINT_RANGE = 9,           /* past 2^48, or past the end of memory */
     GLINT_OVERLAP = 10,        /* shares a device address with a held mapping */
-    GLINT_NO_ROOM = 11,        /* 64 mappings are held */
+    GLINT_NO_ROOM = 11,        /* every lent record is in use */
     GLINT_CUTS = 12,           /* the range holds some but not all of a mapping */
     GLINT_TOO_LONG = 13,       /* transfer or stream over 65,536 bytes */
     GLINT_UNMAPPED = 14,       /* place: first faulty offset */
@@ -123,25 +127,24 @@ static inline glint_memory_address glint_memory(uint64_t value)
     return address;
 }
 
-/* ---- the kept state */
+/* ---- records and the kept state */
 
 /* What a device may do with a mapping's bytes. */
 #define GLINT_READ 1u
 #define GLINT_WRITE 2u
 
-/* `size` bytes of memory from `memory` on, shown at the device addresses from `device` on. */
+/*
+ * A record of the mapping table: `size` bytes of memory from `memory` on, shown at the device addresses from `device` on. The table is an
+ * array of records that the caller lends to each call, of 0 to GLINT_RECORDS_LIMIT. The first of them, as many as the state's `count`,
+ * are in use, by rising device address. The others are stale: no call looks at them, they may hold anything, and a call changes one only
+ * where it puts it to use.
+ */
 typedef struct glint_mapping {
     glint_device_address device;
     glint_memory_address memory;
     uint64_t size;
     uint32_t rights;
 } glint_mapping;
-
-/* The first `count` entries are in use, by rising device address. The others mean nothing. */
-typedef struct glint_table {
-    glint_mapping entries[GLINT_MAPPINGS];
-    uint64_t count;
-} glint_table;
 
 /* A register: it is set where `set` is 1, and no other value says so; from the first byte on its value. Read it by glint_read_register. */
 typedef struct glint_register {
@@ -155,12 +158,12 @@ typedef struct glint_registers {
 } glint_registers;
 
 /*
- * What is kept between calls. A call gets it by value and gives back the one to keep; only loading and saving parts take a pointer to
- * it. It may start as zeros before glint_power_on. Any values may stand in it: a call refuses an unsound one with GLINT_BAD_BENCH.
+ * What is kept between calls. Each call borrows it, and changes it where it stands. It may start as zeros before glint_power_on. Any
+ * values may stand in it: a call refuses an unsound one with GLINT_BAD_BENCH.
  */
 typedef struct glint_state {
     uint64_t memory_length;
-    glint_table table;
+    size_t count; /* how many of the lent records are in use */
     glint_registers registers;
     uint8_t running; /* 1: the device runs; every other value: it does not */
     uint8_t words;   /* which card it is, by the 64-bit words of its features: 1 or 2; every other value: not sound */
@@ -178,12 +181,6 @@ typedef struct glint_outcome {
     uint64_t place;
     uint64_t result;
 } glint_outcome;
-
-/* An answer, and the state to keep. */
-typedef struct glint_kept {
-    glint_outcome outcome;
-    glint_state state;
-} glint_kept;
 
 /* Look-up's answer. */
 typedef struct glint_found {
@@ -210,92 +207,95 @@ typedef struct glint_part_step {
 GLINT_ASSERT(sizeof(bool) == 1);
 GLINT_ASSERT(sizeof(size_t) == 8);
 GLINT_ASSERT(sizeof(glint_mapping) == 32);
-GLINT_ASSERT(sizeof(glint_table) == 2056);
+GLINT_ASSERT(offsetof(glint_mapping, memory) == 8);
+GLINT_ASSERT(offsetof(glint_mapping, size) == 16);
+GLINT_ASSERT(offsetof(glint_mapping, rights) == 24);
 GLINT_ASSERT(sizeof(glint_register) == 33);
 GLINT_ASSERT(sizeof(glint_registers) == 462);
-GLINT_ASSERT(sizeof(glint_state) == 2528);
-GLINT_ASSERT(offsetof(glint_state, table) == 8);
-GLINT_ASSERT(offsetof(glint_state, registers) == 2064);
-GLINT_ASSERT(offsetof(glint_state, running) == 2526);
-GLINT_ASSERT(offsetof(glint_state, words) == 2527);
+GLINT_ASSERT(sizeof(glint_state) == 480);
+GLINT_ASSERT(offsetof(glint_state, count) == 8);
+GLINT_ASSERT(offsetof(glint_state, registers) == 16);
+GLINT_ASSERT(offsetof(glint_state, running) == 478);
+GLINT_ASSERT(offsetof(glint_state, words) == 479);
 GLINT_ASSERT(sizeof(glint_outcome) == 24);
-GLINT_ASSERT(sizeof(glint_kept) == 2552);
 GLINT_ASSERT(sizeof(glint_found) == 40);
 GLINT_ASSERT(sizeof(glint_part_step) == 56);
 
 /* ---- the library's functions */
 
-/* Memory is lent with its marks: bit i % 8 of mark byte i / 8 says whether byte i was written. They take GLINT_MARKS(memory_length)
- * bytes; any other length is refused (1). Bits past the end of memory mean nothing, and no call changes them. */
+/*
+ * Each borrows the state and is lent, in this order: records, memory and marks, where it takes them, as pointer and length; its own
+ * arguments follow.
+ *
+ * Records: more than GLINT_RECORDS_LIMIT are refused (1), also by a fresh start; by all other calls also fewer than the state's count, and
+ * used ones that are not sound. They may be others at each call, as long as those in use are as the last call left them.
+ *
+ * Memory is lent with its marks: bit i % 8 of mark byte i / 8 says whether byte i was written. They take GLINT_MARKS(memory_length)
+ * bytes; any other length is refused (1). Bits past the end of memory mean nothing, and no call changes them.
+ */
 
 /*
  * Fresh start: all marks 0, memory bytes untouched, the memory's length noted, no mapping, the device stopped and reset. The first is that
- * of the card with 64 feature bits, the second of the card with 128.
+ * of the card with 64 feature bits, the second of the card with 128. No record is looked at or changed.
  */
-glint_kept glint_power_on(glint_state state, const uint8_t *memory, size_t memory_length, uint8_t *marks, size_t marks_length);
-glint_kept glint_power_on_128(glint_state state, const uint8_t *memory, size_t memory_length, uint8_t *marks, size_t marks_length);
+glint_outcome glint_power_on(glint_state *state, const glint_mapping *records, size_t records_length, const uint8_t *memory,
+                             size_t memory_length, uint8_t *marks, size_t marks_length);
+glint_outcome glint_power_on_128(glint_state *state, const glint_mapping *records, size_t records_length, const uint8_t *memory,
+                                 size_t memory_length, uint8_t *marks, size_t marks_length);
 
 /* A request on a target by number. Reads the input fields of `buffer` and writes its output fields, no other byte. */
-glint_kept glint_request(glint_state state, const uint8_t *memory, size_t memory_length, const uint8_t *marks, size_t marks_length,
-                         uint32_t target, uint32_t number, uint8_t *buffer, size_t buffer_length);
+glint_outcome glint_request(glint_state *state, glint_mapping *records, size_t records_length, const uint8_t *memory,
+                            size_t memory_length, const uint8_t *marks, size_t marks_length, uint32_t target, uint32_t number,
+                            uint8_t *buffer, size_t buffer_length);
 
 /* Look-up: the memory address and the rights at one device address. Refused: 9, 14. */
-glint_found glint_look_up(glint_state state, uint64_t device);
+glint_found glint_look_up(const glint_state *state, const glint_mapping *records, size_t records_length, uint64_t device);
 
 /* Card read: fills `buffer` from the device address on. Refused: 13, 9, then by the first faulty offset 14, 15, 16. */
-glint_outcome glint_device_read(glint_state state, const uint8_t *memory, size_t memory_length, const uint8_t *marks,
-                                size_t marks_length, uint64_t device, uint8_t *buffer, size_t buffer_length);
+glint_outcome glint_device_read(const glint_state *state, const glint_mapping *records, size_t records_length, const uint8_t *memory,
+                                size_t memory_length, const uint8_t *marks, size_t marks_length, uint64_t device, uint8_t *buffer,
+                                size_t buffer_length);
 
 /* Card write: stores `buffer` from the device address on, in offset order, and marks those bytes. Refused: 13, 9, 14, 15. */
-glint_outcome glint_device_write(glint_state state, uint8_t *memory, size_t memory_length, uint8_t *marks, size_t marks_length,
-                                 uint64_t device, const uint8_t *buffer, size_t buffer_length);
+glint_outcome glint_device_write(const glint_state *state, const glint_mapping *records, size_t records_length, uint8_t *memory,
+                                 size_t memory_length, uint8_t *marks, size_t marks_length, uint64_t device, const uint8_t *buffer,
+                                 size_t buffer_length);
 
 /* Host store: stores `buffer` from the memory address on and marks those bytes. Refused: 13, 9. */
-glint_outcome glint_host_write(glint_state state, uint8_t *memory, size_t memory_length, uint8_t *marks, size_t marks_length,
-                               uint64_t address, const uint8_t *buffer, size_t buffer_length);
+glint_outcome glint_host_write(const glint_state *state, const glint_mapping *records, size_t records_length, uint8_t *memory,
+                               size_t memory_length, uint8_t *marks, size_t marks_length, uint64_t address, const uint8_t *buffer,
+                               size_t buffer_length);
 
 /* Host load: fills `buffer` from the memory address on. Refused: 13, 9, 16. */
-glint_outcome glint_host_read(glint_state state, const uint8_t *memory, size_t memory_length, const uint8_t *marks,
-                              size_t marks_length, uint64_t address, uint8_t *buffer, size_t buffer_length);
+glint_outcome glint_host_read(const glint_state *state, const glint_mapping *records, size_t records_length, const uint8_t *memory,
+                              size_t memory_length, const uint8_t *marks, size_t marks_length, uint64_t address, uint8_t *buffer,
+                              size_t buffer_length);
 
 /* Forget: sets the marks of `length` bytes from the memory address on to 0 and keeps the bytes. Refused: 9. */
-glint_outcome glint_invalidate(glint_state state, const uint8_t *memory, size_t memory_length, uint8_t *marks, size_t marks_length,
-                               uint64_t address, uint64_t length);
+glint_outcome glint_invalidate(const glint_state *state, const glint_mapping *records, size_t records_length, const uint8_t *memory,
+                               size_t memory_length, uint8_t *marks, size_t marks_length, uint64_t address, uint64_t length);
 
 /* Sets the register of a type and a selector number. Refused: 20, 26, 19, 6, 22, 23. */
-glint_kept glint_set_register(glint_state state, uint64_t kind, uint64_t selector, const uint8_t *value, size_t value_length);
+glint_outcome glint_set_register(glint_state *state, const glint_mapping *records, size_t records_length, uint64_t kind,
+                                 uint64_t selector, const uint8_t *value, size_t value_length);
 
 /* Reads a register: its value goes to the buffer's start, its length is the result. Refused: 20, 19, 6, 25, 27. */
-glint_outcome glint_read_register(glint_state state, uint64_t kind, uint64_t selector, uint8_t *buffer, size_t buffer_length);
+glint_outcome glint_read_register(const glint_state *state, const glint_mapping *records, size_t records_length, uint64_t kind,
+                                  uint64_t selector, uint8_t *buffer, size_t buffer_length);
 
-/*
- * Loads a stream of parts into a state where it stands: registers named take their values, all others become unset. Refused: 17, 13,
- * 18 to 24, 6.
- */
-glint_outcome glint_load_parts_into(glint_state *state, const uint8_t *stream, size_t stream_length);
+/* Loads a stream of parts: registers named take their values, all others become unset. Refused: 17, 13, 18 to 24, 6. */
+glint_outcome glint_load_parts(glint_state *state, const glint_mapping *records, size_t records_length, const uint8_t *stream,
+                               size_t stream_length);
 
-/* Saves the set registers of a state as a stream at the buffer's start; its length is the result. Refused: 17, 27. */
-glint_outcome glint_save_parts_from(const glint_state *state, uint8_t *buffer, size_t buffer_length);
-
-/* The same with the state by value, as the other calls have it. */
-static inline glint_kept glint_load_parts(glint_state state, const uint8_t *stream, size_t stream_length)
-{
-    glint_kept kept;
-    kept.state = state;
-    kept.outcome = glint_load_parts_into(&kept.state, stream, stream_length);
-    return kept;
-}
-
-static inline glint_outcome glint_save_parts(glint_state state, uint8_t *buffer, size_t buffer_length)
-{
-    return glint_save_parts_from(&state, buffer, buffer_length);
-}
+/* Saves the set registers as a stream at the buffer's start; its length is the result. Refused: 17, 27. */
+glint_outcome glint_save_parts(const glint_state *state, const glint_mapping *records, size_t records_length, uint8_t *buffer,
+                               size_t buffer_length);
 
 /* Stop and start set whether the device runs, whatever it was. */
-glint_kept glint_stop(glint_state state);
-glint_kept glint_start(glint_state state);
+glint_outcome glint_stop(glint_state *state, const glint_mapping *records, size_t records_length);
+glint_outcome glint_start(glint_state *state, const glint_mapping *records, size_t records_length);
 
-/* One step over a stream from `place` on. Refused, with the step's place: 18, 19. */
+/* One step over a stream from `place` on, which takes no state. Refused, with the step's place: 18, 19. */
 glint_part_step glint_step(const uint8_t *stream, size_t stream_length, size_t place);
 
 /*
@@ -395,8 +395,13 @@ GLINT_ASSERT(sizeof(glint_irq_info) == 16);
 
 /* ==== a bench that keeps its state ==== */
 
-/* Memory and its marks, lent by the caller, and the state. Marks are the library's: a caller reads them and never writes them. */
+/*
+ * Records, memory and its marks, lent by the caller, and the state. Marks and used records are the library's: a caller reads them and
+ * never writes them. Between calls `records` may become another array, longer or shorter, that begins with the used ones.
+ */
 typedef struct glint_bench {
+    glint_mapping *records;
+    size_t records_length;
     uint8_t *memory;
     size_t memory_length;
     uint8_t *marks;
@@ -404,10 +409,10 @@ typedef struct glint_bench {
     glint_state state;
 } glint_bench;
 
-/* Whether a pointer is null though it stands for bytes. Such a call is refused here, with GLINT_NULL_POINTER, and does not run. */
-static inline bool glint_is_null(const void *bytes, size_t length)
+/* Whether a pointer is null though it stands for something. Such a call is refused here, with GLINT_NULL_POINTER, and does not run. */
+static inline bool glint_is_null(const void *pointer, size_t length)
 {
-    return !bytes && length > 0;
+    return !pointer && length > 0;
 }
 
 static inline glint_outcome glint_null_refusal(void)
@@ -416,7 +421,7 @@ static inline glint_outcome glint_null_refusal(void)
     return outcome;
 }
 
-/* Pointers for a slice: C allows null for no bytes, the library does not. */
+/* Pointers for a slice: C allows null for length 0, the library does not. */
 static inline const uint8_t *glint_bytes(const void *bytes)
 {
     static const uint8_t none = 0;
@@ -429,27 +434,31 @@ static inline uint8_t *glint_bytes_mut(void *bytes)
     return bytes ? (uint8_t *)bytes : &none;
 }
 
-/* Whether memory or marks of a bench are null though they stand for bytes. */
+static inline glint_mapping *glint_records(const glint_bench *bench)
+{
+    static glint_mapping none;
+    return bench->records ? bench->records : &none;
+}
+
+/* Whether the records of a bench are null though they stand for some; whether they, memory or marks are. */
+static inline bool glint_bench_has_null_records(const glint_bench *bench)
+{
+    return glint_is_null(bench->records, bench->records_length);
+}
+
 static inline bool glint_bench_is_null(const glint_bench *bench)
 {
-    return glint_is_null(bench->memory, bench->memory_length) || glint_is_null(bench->marks, bench->marks_length);
+    return glint_bench_has_null_records(bench) || glint_is_null(bench->memory, bench->memory_length) ||
+           glint_is_null(bench->marks, bench->marks_length);
 }
 
-/* Keeps the state that a call gave back, and hands on its answer. */
-static inline glint_outcome glint_bench_keep(glint_bench *bench, const glint_kept *kept)
-{
-    bench->state = kept->state;
-    return kept->outcome;
-}
-
-/* Fresh start on the bench's memory and marks, of the card with 64 feature bits. */
+/* Fresh start on what the bench was lent, of the card with 64 feature bits. */
 static inline glint_outcome glint_bench_power_on(glint_bench *bench)
 {
     if (glint_bench_is_null(bench))
         return glint_null_refusal();
-    glint_kept kept = glint_power_on(bench->state, glint_bytes(bench->memory), bench->memory_length, glint_bytes_mut(bench->marks),
-                                     bench->marks_length);
-    return glint_bench_keep(bench, &kept);
+    return glint_power_on(&bench->state, glint_records(bench), bench->records_length, glint_bytes(bench->memory), bench->memory_length,
+                          glint_bytes_mut(bench->marks), bench->marks_length);
 }
 
 /* The same of the card with 128. */
@@ -457,15 +466,20 @@ static inline glint_outcome glint_bench_power_on_128(glint_bench *bench)
 {
     if (glint_bench_is_null(bench))
         return glint_null_refusal();
-    glint_kept kept = glint_power_on_128(bench->state, glint_bytes(bench->memory), bench->memory_length,
-                                         glint_bytes_mut(bench->marks), bench->marks_length);
-    return glint_bench_keep(bench, &kept);
+    return glint_power_on_128(&bench->state, glint_records(bench), bench->records_length, glint_bytes(bench->memory),
+                              bench->memory_length, glint_bytes_mut(bench->marks), bench->marks_length);
 }
 
-/* Takes `length` bytes of memory and GLINT_MARKS(length) bytes of marks; before a fresh start every other call is refused. */
-static inline void glint_bench_lend(glint_bench *bench, uint8_t *memory, uint8_t *marks, size_t length)
+/*
+ * Takes so many records, `length` bytes of memory and GLINT_MARKS(length) bytes of marks; before a fresh start every other call is
+ * refused. The records need not hold anything: as many mappings can be held as there are records.
+ */
+static inline void glint_bench_lend(glint_bench *bench, glint_mapping *records, size_t records_length, uint8_t *memory, uint8_t *marks,
+                                    size_t length)
 {
     memset(bench, 0, sizeof *bench);
+    bench->records = records;
+    bench->records_length = records_length;
     bench->memory = memory;
     bench->memory_length = length;
     bench->marks = marks;
@@ -473,16 +487,18 @@ static inline void glint_bench_lend(glint_bench *bench, uint8_t *memory, uint8_t
 }
 
 /* The same, with a fresh start of the card with 64 feature bits. Where that is refused, so is every other call until one is not. */
-static inline glint_outcome glint_bench_init(glint_bench *bench, uint8_t *memory, uint8_t *marks, size_t length)
+static inline glint_outcome glint_bench_init(glint_bench *bench, glint_mapping *records, size_t records_length, uint8_t *memory,
+                                             uint8_t *marks, size_t length)
 {
-    glint_bench_lend(bench, memory, marks, length);
+    glint_bench_lend(bench, records, records_length, memory, marks, length);
     return glint_bench_power_on(bench);
 }
 
 /* And with one of the card with 128. */
-static inline glint_outcome glint_bench_init_128(glint_bench *bench, uint8_t *memory, uint8_t *marks, size_t length)
+static inline glint_outcome glint_bench_init_128(glint_bench *bench, glint_mapping *records, size_t records_length, uint8_t *memory,
+                                                 uint8_t *marks, size_t length)
 {
-    glint_bench_lend(bench, memory, marks, length);
+    glint_bench_lend(bench, records, records_length, memory, marks, length);
     return glint_bench_power_on_128(bench);
 }
 
@@ -500,9 +516,8 @@ static inline glint_outcome glint_bench_request(glint_bench *bench, uint32_t tar
 {
     if (glint_bench_is_null(bench) || glint_is_null(buffer, length))
         return glint_null_refusal();
-    glint_kept kept = glint_request(bench->state, glint_bytes(bench->memory), bench->memory_length, glint_bytes(bench->marks),
-                                    bench->marks_length, target, number, glint_bytes_mut(buffer), length);
-    return glint_bench_keep(bench, &kept);
+    return glint_request(&bench->state, glint_records(bench), bench->records_length, glint_bytes(bench->memory), bench->memory_length,
+                         glint_bytes(bench->marks), bench->marks_length, target, number, glint_bytes_mut(buffer), length);
 }
 
 /* The result is the version of the interface, 0. */
@@ -583,47 +598,55 @@ static inline glint_outcome glint_bench_reset(glint_bench *bench)
 
 static inline glint_found glint_bench_look_up(const glint_bench *bench, glint_device_address device)
 {
-    return glint_look_up(bench->state, device.value);
+    if (glint_bench_has_null_records(bench)) {
+        glint_found refused = {glint_null_refusal(), {0}, 0};
+        return refused;
+    }
+    return glint_look_up(&bench->state, glint_records(bench), bench->records_length, device.value);
 }
 
 static inline glint_outcome glint_bench_device_read(const glint_bench *bench, glint_device_address device, void *buffer, size_t length)
 {
     if (glint_bench_is_null(bench) || glint_is_null(buffer, length))
         return glint_null_refusal();
-    return glint_device_read(bench->state, glint_bytes(bench->memory), bench->memory_length, glint_bytes(bench->marks),
-                             bench->marks_length, device.value, glint_bytes_mut(buffer), length);
+    return glint_device_read(&bench->state, glint_records(bench), bench->records_length, glint_bytes(bench->memory),
+                             bench->memory_length, glint_bytes(bench->marks), bench->marks_length, device.value,
+                             glint_bytes_mut(buffer), length);
 }
 
 static inline glint_outcome glint_bench_device_write(glint_bench *bench, glint_device_address device, const void *buffer, size_t length)
 {
     if (glint_bench_is_null(bench) || glint_is_null(buffer, length))
         return glint_null_refusal();
-    return glint_device_write(bench->state, glint_bytes_mut(bench->memory), bench->memory_length, glint_bytes_mut(bench->marks),
-                              bench->marks_length, device.value, glint_bytes(buffer), length);
+    return glint_device_write(&bench->state, glint_records(bench), bench->records_length, glint_bytes_mut(bench->memory),
+                              bench->memory_length, glint_bytes_mut(bench->marks), bench->marks_length, device.value,
+                              glint_bytes(buffer), length);
 }
 
 static inline glint_outcome glint_bench_host_write(glint_bench *bench, glint_memory_address address, const void *buffer, size_t length)
 {
     if (glint_bench_is_null(bench) || glint_is_null(buffer, length))
         return glint_null_refusal();
-    return glint_host_write(bench->state, glint_bytes_mut(bench->memory), bench->memory_length, glint_bytes_mut(bench->marks),
-                            bench->marks_length, address.value, glint_bytes(buffer), length);
+    return glint_host_write(&bench->state, glint_records(bench), bench->records_length, glint_bytes_mut(bench->memory),
+                            bench->memory_length, glint_bytes_mut(bench->marks), bench->marks_length, address.value,
+                            glint_bytes(buffer), length);
 }
 
 static inline glint_outcome glint_bench_host_read(const glint_bench *bench, glint_memory_address address, void *buffer, size_t length)
 {
     if (glint_bench_is_null(bench) || glint_is_null(buffer, length))
         return glint_null_refusal();
-    return glint_host_read(bench->state, glint_bytes(bench->memory), bench->memory_length, glint_bytes(bench->marks),
-                           bench->marks_length, address.value, glint_bytes_mut(buffer), length);
+    return glint_host_read(&bench->state, glint_records(bench), bench->records_length, glint_bytes(bench->memory),
+                           bench->memory_length, glint_bytes(bench->marks), bench->marks_length, address.value,
+                           glint_bytes_mut(buffer), length);
 }
 
 static inline glint_outcome glint_bench_invalidate(glint_bench *bench, glint_memory_address address, uint64_t length)
 {
     if (glint_bench_is_null(bench))
         return glint_null_refusal();
-    return glint_invalidate(bench->state, glint_bytes(bench->memory), bench->memory_length, glint_bytes_mut(bench->marks),
-                            bench->marks_length, address.value, length);
+    return glint_invalidate(&bench->state, glint_records(bench), bench->records_length, glint_bytes(bench->memory),
+                            bench->memory_length, glint_bytes_mut(bench->marks), bench->marks_length, address.value, length);
 }
 
 /* ---- registers and parts */
@@ -631,44 +654,46 @@ static inline glint_outcome glint_bench_invalidate(glint_bench *bench, glint_mem
 static inline glint_outcome glint_bench_set_register(glint_bench *bench, uint64_t kind, uint64_t selector, const void *value,
                                                      size_t length)
 {
-    if (glint_is_null(value, length))
+    if (glint_bench_has_null_records(bench) || glint_is_null(value, length))
         return glint_null_refusal();
-    glint_kept kept = glint_set_register(bench->state, kind, selector, glint_bytes(value), length);
-    return glint_bench_keep(bench, &kept);
+    return glint_set_register(&bench->state, glint_records(bench), bench->records_length, kind, selector, glint_bytes(value), length);
 }
 
 static inline glint_outcome glint_bench_read_register(const glint_bench *bench, uint64_t kind, uint64_t selector, void *buffer,
                                                       size_t length)
 {
-    if (glint_is_null(buffer, length))
+    if (glint_bench_has_null_records(bench) || glint_is_null(buffer, length))
         return glint_null_refusal();
-    return glint_read_register(bench->state, kind, selector, glint_bytes_mut(buffer), length);
+    return glint_read_register(&bench->state, glint_records(bench), bench->records_length, kind, selector, glint_bytes_mut(buffer),
+                               length);
 }
 
 static inline glint_outcome glint_bench_load_parts(glint_bench *bench, const void *stream, size_t length)
 {
-    if (glint_is_null(stream, length))
+    if (glint_bench_has_null_records(bench) || glint_is_null(stream, length))
         return glint_null_refusal();
-    return glint_load_parts_into(&bench->state, glint_bytes(stream), length);
+    return glint_load_parts(&bench->state, glint_records(bench), bench->records_length, glint_bytes(stream), length);
 }
 
 static inline glint_outcome glint_bench_save_parts(const glint_bench *bench, void *buffer, size_t length)
 {
-    if (glint_is_null(buffer, length))
+    if (glint_bench_has_null_records(bench) || glint_is_null(buffer, length))
         return glint_null_refusal();
-    return glint_save_parts_from(&bench->state, glint_bytes_mut(buffer), length);
+    return glint_save_parts(&bench->state, glint_records(bench), bench->records_length, glint_bytes_mut(buffer), length);
 }
 
 static inline glint_outcome glint_bench_stop(glint_bench *bench)
 {
-    glint_kept kept = glint_stop(bench->state);
-    return glint_bench_keep(bench, &kept);
+    if (glint_bench_has_null_records(bench))
+        return glint_null_refusal();
+    return glint_stop(&bench->state, glint_records(bench), bench->records_length);
 }
 
 static inline glint_outcome glint_bench_start(glint_bench *bench)
 {
-    glint_kept kept = glint_start(bench->state);
-    return glint_bench_keep(bench, &kept);
+    if (glint_bench_has_null_records(bench))
+        return glint_null_refusal();
+    return glint_start(&bench->state, glint_records(bench), bench->records_length);
 }
 
 /* A walker over a stream: it keeps hold of the stream and its place. */

@@ -9,8 +9,9 @@
 int main()
 {
     std::vector<std::uint8_t> memory(8192), marks(GLINT_MARKS(8192), 1);
+    glint_mapping records[2];
     glint_bench bench;
-    glint_outcome started = glint_bench_init(&bench, memory.data(), marks.data(), memory.size());
+    glint_outcome started = glint_bench_init(&bench, records, GLINT_COUNT(records), memory.data(), marks.data(), memory.size());
     glint_outcome mapped = glint_bench_map(&bench, glint_memory(0), glint_device(4096), 4096, GLINT_READ);
     std::uint8_t byte = 7;
     glint_outcome read = glint_bench_device_read(&bench, glint_device(4096), &byte, 1);

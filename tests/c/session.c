@@ -136,18 +136,39 @@ static bool fence_holds(const struct fenced *fenced)
     return all_filler(fenced->all, FENCE) && all_filler(fenced->all + end, sizeof fenced->all - end);
 }
 
-// ---- the bench of a test: three pages
+// ---- the bench of a test: three pages, and records that hold filler until they are put to use
 
-enum { PAGE = 4096 };
+enum { PAGE = 4096, RECORDS = 64 };
 
 static struct fenced memory, marks, buffer;
+static struct {
+    glint_mapping before, records[GLINT_RECORDS_LIMIT + 1], behind;
+} table;
 static glint_bench bench;
+
+// Whether the records from place `from` up to but not including `to` hold what nobody put there.
+static bool stale(size_t from, size_t to)
+{
+    return all_filler((const uint8_t *)(table.records + from), (to - from) * sizeof(glint_mapping));
+}
+
+// Fresh start on so many records.
+static glint_outcome start_with(size_t records)
+{
+    memset(&table, FILLER, sizeof table);
+    uint8_t *bytes = fill(&memory, ROOM), *bits = fill(&marks, GLINT_MARKS(ROOM));
+    return glint_bench_init(&bench, table.records, records, bytes, bits, ROOM);
+}
 
 static void fresh_bench(void)
 {
-    uint8_t *bytes = fill(&memory, ROOM);
-    glint_outcome outcome = glint_bench_init(&bench, bytes, fill(&marks, GLINT_MARKS(ROOM)), ROOM);
-    CHECK_DONE(outcome, 0);
+    CHECK_DONE(start_with(RECORDS), 0);
+}
+
+// Whether a record is a mapping of one page, by the page of its device address.
+static bool is_page(const glint_mapping *record, uint64_t page)
+{
+    return record->device.value == page * PAGE && record->memory.value == 0 && record->size == PAGE && record->rights == GLINT_READ;
 }
 
 // A request with the kernel's struct, in a fenced buffer; the struct is then what the buffer holds.
@@ -200,7 +221,7 @@ static void power_on(void)
 {
     fresh_bench();
     CHECK(bench.state.memory_length == ROOM);
-    CHECK(bench.state.table.count == 0);
+    CHECK(bench.state.count == 0);
     CHECK(bench.state.running == 0);
     CHECK(marked(0, ROOM, 0));
     CHECK(all_filler(fenced_bytes(&memory), ROOM));
@@ -209,10 +230,12 @@ static void power_on(void)
     CHECK_DONE(glint_bench_host_write(&bench, glint_memory(5), "x", 1), 0);
     CHECK_DONE(glint_bench_start(&bench), 0);
     CHECK_DONE(glint_bench_power_on(&bench), 0);
-    CHECK(bench.state.table.count == 0);
+    CHECK(bench.state.count == 0);
     CHECK(bench.state.running == 0);
     CHECK(marked(0, ROOM, 0));
     CHECK(fenced_bytes(&memory)[5] == 'x');
+    // The record that was in use is stale now, and holds what it held.
+    CHECK(is_page(&bench.records[0], 0) && stale(1, RECORDS));
 }
 
 // 11 bytes of memory have two mark bytes. Bits past the end stay as they are, and a mark byte more or less is refused.
@@ -220,7 +243,7 @@ static void packed_marks(void)
 {
     uint8_t *bytes = fill(&memory, 11), *bits = lend(&marks, "\xff\xff", 2);
     CHECK(GLINT_MARKS(0) == 0 && GLINT_MARKS(1) == 1 && GLINT_MARKS(8) == 1 && GLINT_MARKS(9) == 2 && GLINT_MARKS(11) == 2);
-    CHECK_DONE(glint_bench_init(&bench, bytes, bits, 11), 0);
+    CHECK_DONE(glint_bench_init(&bench, table.records, RECORDS, bytes, bits, 11), 0);
     CHECK_BYTES(bits, "\x00\xf8", 2);
     CHECK_DONE(glint_bench_host_write(&bench, glint_memory(7), "ab", 2), 0);
     CHECK_BYTES(bits, "\x80\xf9", 2);
@@ -248,9 +271,9 @@ static void bad_bench(void)
     CHECK_DONE(device_read(0, 0), 0);
 
     glint_state sound = bench.state;
-    bench.state.table.count = GLINT_MAPPINGS + 1;
+    bench.state.count = RECORDS + 1;
     CHECK_REFUSED(glint_bench_stop(&bench), GLINT_BAD_BENCH, 0);
-    CHECK(bench.state.table.count == GLINT_MAPPINGS + 1);
+    CHECK(bench.state.count == RECORDS + 1);
     CHECK_REFUSED(glint_bench_look_up(&bench, glint_device(0)).outcome, GLINT_BAD_BENCH, 0);
     bench.state = sound;
     bench.state.registers.slots[5].set = 0;
@@ -301,11 +324,11 @@ static void map_and_look_up(void)
     const uint64_t top = GLINT_DEVICE_LIMIT - PAGE;
     fresh_bench();
     CHECK_DONE(map(PAGE, top, PAGE, VFIO_DMA_MAP_FLAG_READ | VFIO_DMA_MAP_FLAG_WRITE), 0);
-    CHECK(bench.state.table.count == 1);
-    CHECK(bench.state.table.entries[0].device.value == top);
-    CHECK(bench.state.table.entries[0].memory.value == PAGE);
-    CHECK(bench.state.table.entries[0].size == PAGE);
-    CHECK(bench.state.table.entries[0].rights == 3);
+    CHECK(bench.state.count == 1);
+    CHECK(bench.records[0].device.value == top);
+    CHECK(bench.records[0].memory.value == PAGE);
+    CHECK(bench.records[0].size == PAGE);
+    CHECK(bench.records[0].rights == 3);
 
     glint_found found = glint_bench_look_up(&bench, glint_device(top + 7));
     CHECK_DONE(found.outcome, 0);
@@ -325,17 +348,95 @@ static void map_and_look_up(void)
     CHECK_BYTES(&bench.state, &before, sizeof before);
 }
 
+// A map of a page of its own, by the page of its device address.
+static glint_outcome map_page(uint64_t page)
+{
+    return map(0, page * PAGE, PAGE, GLINT_READ);
+}
+
 static void table_full(void)
 {
     fresh_bench();
-    for (uint64_t i = 0; i < GLINT_MAPPINGS; i++)
-        CHECK_DONE(map(0, (GLINT_MAPPINGS - i) * 2 * PAGE, PAGE, GLINT_READ), 0);
-    CHECK_REFUSED(map(0, 0, PAGE, GLINT_READ), GLINT_NO_ROOM, 0);
+    for (uint64_t i = 0; i < RECORDS; i++)
+        CHECK_DONE(map_page((RECORDS - i) * 2), 0);
+    CHECK_REFUSED(map_page(0), GLINT_NO_ROOM, 0);
     uint64_t removed;
     CHECK_DONE(unmap(2 * PAGE, PAGE, &removed), 0);
     CHECK(removed == PAGE);
-    CHECK_DONE(map(0, 0, PAGE, GLINT_READ), 0);
-    CHECK(bench.state.table.count == GLINT_MAPPINGS);
+    CHECK_DONE(map_page(0), 0);
+    CHECK(bench.state.count == RECORDS);
+}
+
+// As many mappings are held as there are records, 0 to 4,096 of them; one record more cannot be lent.
+static void lent_records(void)
+{
+    static const size_t lengths[] = {0, 1, 63, 64, 65, GLINT_RECORDS_LIMIT - 1, GLINT_RECORDS_LIMIT};
+    for (size_t i = 0; i < GLINT_COUNT(lengths); i++) {
+        const size_t length = lengths[i];
+        CHECK_DONE(start_with(length), 0);
+        CHECK(stale(0, GLINT_RECORDS_LIMIT + 1));
+        for (size_t page = length; page > 0; page--)
+            CHECK_DONE(map_page(page), 0);
+        CHECK_REFUSED(map_page(0), GLINT_NO_ROOM, 0);
+        CHECK_REFUSED(map_page(length), length > 0 ? GLINT_OVERLAP : GLINT_NO_ROOM, 0);
+        CHECK(bench.state.count == length && stale(length, GLINT_RECORDS_LIMIT + 1));
+        for (size_t page = 0; page < length; page++)
+            CHECK(is_page(&bench.records[page], page + 1));
+        CHECK(length == 0 || !glint_bench_look_up(&bench, glint_device(length * PAGE)).outcome.refused);
+    }
+    CHECK_REFUSED(start_with(GLINT_RECORDS_LIMIT + 1), GLINT_BAD_BENCH, 0);
+    fresh_bench();
+    bench.records_length = GLINT_RECORDS_LIMIT + 1;
+    CHECK_REFUSED(glint_bench_stop(&bench), GLINT_BAD_BENCH, 0);
+    CHECK(stale(0, GLINT_RECORDS_LIMIT + 1));
+}
+
+// An unmap copies the records that stay down over those that go: of pages 1 2 3 4, without 2 and 3, 1 4 3 4 remain.
+static void stale_records(void)
+{
+    uint64_t removed;
+    fresh_bench();
+    for (uint64_t page = 1; page <= 4; page++)
+        CHECK_DONE(map_page(page), 0);
+    CHECK_DONE(unmap(2 * PAGE, 2 * PAGE, &removed), 0);
+    CHECK(bench.state.count == 2 && stale(4, RECORDS));
+    CHECK(is_page(&bench.records[0], 1) && is_page(&bench.records[1], 4));
+    CHECK(is_page(&bench.records[2], 3) && is_page(&bench.records[3], 4));
+
+    // What the stale ones hold decides nothing: page 3 is free, and others may write there.
+    CHECK_REFUSED(glint_bench_look_up(&bench, glint_device(3 * PAGE)).outcome, GLINT_UNMAPPED, 0);
+    memset(&bench.records[2], 0xff, 2 * sizeof(glint_mapping));
+    CHECK_DONE(map_page(3), 0);
+    CHECK(is_page(&bench.records[1], 3) && is_page(&bench.records[2], 4));
+    CHECK(bench.records[3].size == UINT64_MAX);
+}
+
+// The records may be others at each call, as long as those in use are the same.
+static void exchanged_records(void)
+{
+    static glint_mapping more[RECORDS + 1];
+    fresh_bench();
+    CHECK_DONE(map_page(1), 0);
+    CHECK_DONE(map_page(2), 0);
+    memcpy(more, bench.records, 2 * sizeof(glint_mapping));
+    bench.records = more;
+    bench.records_length = 3;
+    CHECK_DONE(map_page(3), 0);
+    CHECK_REFUSED(map_page(4), GLINT_NO_ROOM, 0);
+    CHECK(stale(2, RECORDS));
+    bench.records_length = GLINT_COUNT(more);
+    CHECK_DONE(map_page(4), 0);
+    // Too few for those in use.
+    bench.records_length = 3;
+    CHECK_REFUSED(map_page(5), GLINT_BAD_BENCH, 0);
+    CHECK_REFUSED(glint_bench_look_up(&bench, glint_device(PAGE)).outcome, GLINT_BAD_BENCH, 0);
+    bench.records_length = 4;
+    CHECK_DONE(glint_bench_look_up(&bench, glint_device(PAGE)).outcome, 0);
+    // A record in use that is not sound; a stale one may be anything.
+    more[3].rights = 4;
+    CHECK_REFUSED(glint_bench_start(&bench), GLINT_BAD_BENCH, 0);
+    bench.state.count = 3;
+    CHECK_DONE(glint_bench_start(&bench), 0);
 }
 
 static void unmap_ranges(void)
@@ -346,11 +447,11 @@ static void unmap_ranges(void)
     CHECK_DONE(map(0, 2 * PAGE, PAGE, GLINT_READ), 0);
     CHECK_REFUSED(unmap(PAGE, 2 * PAGE, &removed), GLINT_CUTS, 0);
     CHECK(removed == 2 * PAGE); // the size field as it was given
-    CHECK(bench.state.table.count == 2);
+    CHECK(bench.state.count == 2);
     CHECK_REFUSED(unmap(1, 0, &removed), GLINT_EMPTY, 0);
     CHECK_DONE(unmap(0, 3 * PAGE, &removed), 0);
     CHECK(removed == 3 * PAGE);
-    CHECK(bench.state.table.count == 0);
+    CHECK(bench.state.count == 0);
     CHECK_DONE(unmap(0, 3 * PAGE, &removed), 0);
     CHECK(removed == 0);
 
@@ -531,21 +632,18 @@ static void save_and_load(void)
     CHECK_REFUSED(glint_bench_load_parts(&bench, NULL, 0), GLINT_MISSING, 0);
     CHECK_REFUSED(glint_bench_load_parts(&bench, reset_saved, 40), GLINT_TRUNCATED, 24);
 
-    /* By value: the answer and the state are those of the calls by pointer, and the state that was given stays. */
+    // Loading changes the registers alone; a refused one changes nothing.
     CHECK_DONE(glint_bench_set_register(&bench, GLINT_COMMON_FIELD, 22, "\x01\x02", 2), 0);
     const glint_state given = bench.state;
-    glint_kept kept = glint_load_parts(given, reset_saved, sizeof reset_saved);
-    CHECK_DONE(kept.outcome, 0);
-    CHECK(memcmp(&given, &bench.state, sizeof given) == 0);
-    CHECK_DONE(glint_load_parts_into(&bench.state, reset_saved, sizeof reset_saved), 0);
-    CHECK(memcmp(&kept.state, &bench.state, sizeof given) == 0);
-    CHECK(memcmp(&kept.state.table, &given.table, sizeof given.table) == 0);
-    CHECK(given.registers.slots[4].set == 1 && kept.state.registers.slots[4].set == 0);
-    kept = glint_load_parts(given, twice, sizeof twice);
-    CHECK_REFUSED(kept.outcome, GLINT_TWICE, 17);
-    CHECK(memcmp(&kept.state, &given, sizeof given) == 0);
-    CHECK_DONE(glint_save_parts(given, fill(&buffer, 64), 64), 59);
-    CHECK_DONE(glint_save_parts_from(&bench.state, fill(&buffer, 64), 64), 41);
+    CHECK_REFUSED(glint_bench_load_parts(&bench, twice, sizeof twice), GLINT_TWICE, 17);
+    CHECK_BYTES(&bench.state, &given, sizeof given);
+    CHECK_DONE(glint_bench_save_parts(&bench, fill(&buffer, 64), 64), 59);
+    CHECK_BYTES(&bench.state, &given, sizeof given);
+    CHECK_DONE(glint_bench_load_parts(&bench, reset_saved, sizeof reset_saved), 0);
+    CHECK(given.registers.slots[4].set == 1 && bench.state.registers.slots[4].set == 0);
+    bench.state.registers = given.registers;
+    CHECK_BYTES(&bench.state, &given, sizeof given);
+    CHECK_DONE(glint_bench_load_parts(&bench, twice, 17), 0);
 
     CHECK_DONE(glint_bench_start(&bench), 0);
     CHECK_REFUSED(glint_bench_load_parts(&bench, twice, 17), GLINT_RUNNING, 0);
@@ -599,7 +697,7 @@ static void steps(void)
 static void no_memory(void)
 {
     static glint_bench empty;
-    CHECK_DONE(glint_bench_init(&empty, NULL, NULL, 0), 0);
+    CHECK_DONE(glint_bench_init(&empty, NULL, 0, NULL, NULL, 0), 0);
     CHECK_DONE(glint_bench_host_write(&empty, glint_memory(0), NULL, 0), 0);
     CHECK_DONE(glint_bench_host_read(&empty, glint_memory(0), NULL, 0), 0);
     CHECK_DONE(glint_bench_device_write(&empty, glint_device(0), NULL, 0), 0);
@@ -608,6 +706,8 @@ static void no_memory(void)
     CHECK_REFUSED(glint_bench_set_register(&empty, GLINT_DEVICE_STATUS, 0, NULL, 0), GLINT_VALUE, 0);
     CHECK_DONE(glint_bench_reset(&empty), 0);
     CHECK_DONE(glint_bench_api_version(&empty), 0);
+    CHECK_DONE(glint_bench_start(&empty), 0);
+    CHECK_REFUSED(glint_bench_look_up(&empty, glint_device(0)).outcome, GLINT_UNMAPPED, 0);
     CHECK_DONE(glint_bench_check_extension(&empty, GLINT_TYPE1V2_IOMMU), 1);
     const uint8_t *value;
     size_t length;
@@ -629,12 +729,25 @@ static void null_pointers(void)
     CHECK_REFUSED(glint_bench_read_register(&bench, GLINT_DEVICE_STATUS, 0, NULL, 1), GLINT_NULL_POINTER, 0);
     CHECK_REFUSED(glint_bench_load_parts(&bench, NULL, 17), GLINT_NULL_POINTER, 0);
     CHECK_REFUSED(glint_bench_save_parts(&bench, NULL, 64), GLINT_NULL_POINTER, 0);
+    bench.records = NULL;
+    CHECK_REFUSED(glint_bench_power_on(&bench), GLINT_NULL_POINTER, 0);
+    CHECK_REFUSED(glint_bench_reset(&bench), GLINT_NULL_POINTER, 0);
+    CHECK_REFUSED(glint_bench_look_up(&bench, glint_device(0)).outcome, GLINT_NULL_POINTER, 0);
+    CHECK_REFUSED(device_read(0, 1), GLINT_NULL_POINTER, 0);
+    CHECK_REFUSED(glint_bench_set_register(&bench, GLINT_DEVICE_STATUS, 0, "x", 1), GLINT_NULL_POINTER, 0);
+    CHECK_REFUSED(glint_bench_read_register(&bench, GLINT_DEVICE_STATUS, 0, fill(&buffer, 1), 1), GLINT_NULL_POINTER, 0);
+    CHECK_REFUSED(glint_bench_load_parts(&bench, reset_saved, sizeof reset_saved), GLINT_NULL_POINTER, 0);
+    CHECK_REFUSED(glint_bench_save_parts(&bench, fill(&buffer, 64), 64), GLINT_NULL_POINTER, 0);
+    CHECK_REFUSED(glint_bench_stop(&bench), GLINT_NULL_POINTER, 0);
+    CHECK_REFUSED(glint_bench_start(&bench), GLINT_NULL_POINTER, 0);
     CHECK(memcmp(&bench.state, &before, sizeof before) == 0);
 
     static glint_bench half;
     uint8_t byte = FILLER;
-    CHECK_REFUSED(glint_bench_init(&half, NULL, &byte, 1), GLINT_NULL_POINTER, 0);
-    CHECK_REFUSED(glint_bench_init(&half, &byte, NULL, 1), GLINT_NULL_POINTER, 0);
+    glint_mapping record;
+    CHECK_REFUSED(glint_bench_init(&half, &record, 1, NULL, &byte, 1), GLINT_NULL_POINTER, 0);
+    CHECK_REFUSED(glint_bench_init(&half, NULL, 1, &byte, &byte, 1), GLINT_NULL_POINTER, 0);
+    CHECK_REFUSED(glint_bench_init(&half, &record, 1, &byte, NULL, 1), GLINT_NULL_POINTER, 0);
     CHECK_REFUSED(glint_bench_invalidate(&half, glint_memory(0), 0), GLINT_NULL_POINTER, 0);
     CHECK_REFUSED(glint_bench_reset(&half), GLINT_NULL_POINTER, 0);
     CHECK(byte == FILLER);
@@ -718,7 +831,7 @@ static void second_card(void)
     CHECK_REFUSED(glint_bench_stop(&bench), GLINT_BAD_BENCH, 0);
     static glint_bench another;
     uint8_t byte, mark;
-    CHECK_DONE(glint_bench_init_128(&another, &byte, &mark, 1), 0);
+    CHECK_DONE(glint_bench_init_128(&another, NULL, 0, &byte, &mark, 1), 0);
     CHECK_REFUSED(glint_bench_load_parts(&another, first, 41), GLINT_VALUE, 0);
     CHECK_DONE(glint_bench_load_parts(&another, second, 49), 0);
 }
@@ -746,15 +859,18 @@ int main(void)
         TEST(power_on),     TEST(bad_bench),     TEST(container),  TEST(iommu_info),  TEST(map_and_look_up), TEST(table_full),
         TEST(unmap_ranges), TEST(device_reads),  TEST(device_writes), TEST(host_loads), TEST(device_info),   TEST(region_info),
         TEST(irq_info),     TEST(registers),     TEST(save_and_load), TEST(steps),      TEST(no_memory),     TEST(refusal_names),
-        TEST(null_pointers), TEST(refused_info), TEST(flag_bytes), TEST(second_card), TEST(packed_marks),
+        TEST(null_pointers), TEST(refused_info), TEST(flag_bytes), TEST(second_card), TEST(packed_marks),    TEST(lent_records),
+        TEST(stale_records), TEST(exchanged_records),
     };
     const unsigned count = sizeof tests / sizeof *tests;
     unsigned failed = 0;
     for (unsigned i = 0; i < count; i++) {
         unsigned before = faults;
         tests[i].run();
-        // Whatever a test did, nothing around memory and marks was written.
+        // Whatever a test did, nothing around records, memory and marks was written.
         CHECK(fence_holds(&memory) && fence_holds(&marks));
+        CHECK(all_filler((const uint8_t *)&table.before, sizeof table.before) && stale(bench.records_length, GLINT_RECORDS_LIMIT + 1));
+        CHECK(all_filler((const uint8_t *)&table.behind, sizeof table.behind));
         if (faults > before) {
             fprintf(stderr, "failed: %s\n", tests[i].name);
             failed++;

@@ -21,15 +21,15 @@ use Rattle.assurance.proofs.Blind.{seen, blind}
 
 -- ---- the relation of demand 3 is equality of what is seen
 
-emulator-eq : {b c : List ℕ} {s t : Shadow} {k l : Machine} → b ≡ c → s ≡ t → k ≡ l
-    → _≡_ {A = Emulator} (record { memory = record { bytes = b; shadow = s }; machine = k }) (record { memory = record { bytes = c; shadow = t }; machine = l })
-emulator-eq p q r = λ i. record { memory = record { bytes = p i; shadow = q i }; machine = r i }
+emulator-eq : {b c : List ℕ} {s t : Shadow} {n o : ℕ} {k l : Machine} → b ≡ c → s ≡ t → n ≡ o → k ≡ l
+    → _≡_ {A = Emulator} (record { memory = record { bytes = b; shadow = s }; room = n; machine = k }) (record { memory = record { bytes = c; shadow = t }; room = o; machine = l })
+emulator-eq p q v r = λ i. record { memory = record { bytes = p i; shadow = q i }; room = v i; machine = r i }
 
 -- the second under the first one's shadow
-pub same→seen : (e f : Emulator) → Same e f → seen e ≡ seen (shadowedBy (e .memory .shadow) f)
+pub same→seen : (e f : Emulator) → Same e f → e .room ≡ f .room → seen e ≡ seen (shadowedBy (e .memory .shadow) f)
 unfolding seen written byteAt shadowedBy
-same→seen e f s =
-    emulator-eq (mask-eq (written (e .memory)) (e .memory .bytes) (f .memory .bytes) (s .size) (λ a h. s .bytes (memoryAddress a) h)) refl (s .machine)
+same→seen e f s level =
+    emulator-eq (mask-eq (written (e .memory)) (e .memory .bytes) (f .memory .bytes) (s .size) (λ a h. s .bytes (memoryAddress a) h)) refl level (s .machine)
 
 -- emulators that are seen alike have memories of one length, which agree wherever a byte is written
 seen-parts : (e f : Emulator) → seen e ≡ seen f
@@ -97,7 +97,7 @@ seen-edited (d ∷ ds) m n h =
 seen-after : (o : Effect) (e f : Emulator) → seen e ≡ seen f → seen (after o e) ≡ seen (after o f)
 unfolding after seen seenMemory
 seen-after o e f h =
-    ap (λ (m : Memory). record { memory = m; machine = o .machine }) (seen-edited (o .edits) (e .memory) (f .memory) (ap (λ (x : Emulator). x .memory) h))
+    ap₂ (λ (m : Memory) (n : ℕ). record { memory = m; room = n; machine = o .machine }) (seen-edited (o .edits) (e .memory) (f .memory) (ap (λ (x : Emulator). x .memory) h)) (ap (λ (x : Emulator). x .room) h)
 
 -- ---- the same marks are kept by edits, and bytes do not go by marks
 
@@ -123,9 +123,9 @@ edited-bytes (d ∷ ds) m n h = edited-bytes ds (edit d m) (edit d n) (edit-byte
 
 -- ---- one call
 
-same-disturbed : (w v : Others) (e f : Emulator) → Same e f → Same (disturbed w e) (disturbed v f)
+same-disturbed : (w v : Others) (room : ℕ) (e f : Emulator) → Same e f → Same (disturbed w room e) (disturbed v room f)
 unfolding disturbed written byteAt
-same-disturbed w v e f s =
+same-disturbed w v room e f s =
     record {
       machine = s .machine;
       shadow = s .shadow;
@@ -136,7 +136,7 @@ same-disturbed w v e f s =
           ∙ sym (getD-kept (written (f .memory)) (v .memory) (f .memory .bytes) (a .0) (sym (s .shadow .at a) ∙ h));
     }
 
-module _ (e f : Emulator) (s : Same e f) where
+module _ (e f : Emulator) (s : Same e f) (level : e .room ≡ f .room) where
   lent-same : lendable (shadowedBy (e .memory .shadow) f .memory) ≡ lendable (f .memory)
   unfolding lendable shadowedBy
   lent-same = rw (s .shadow .level, s .shadow .long, s .shadow .way (length (f .memory .bytes)))
@@ -144,7 +144,7 @@ module _ (e f : Emulator) (s : Same e f) where
   same-outcome : (w v : Others) (q : Ask) → outcome (q .call) (lentTo w q) e ≡ outcome (q .call) (lentTo v q) f
   same-outcome w v q =
       sym (blind (q .call) (lentTo w q) e)
-      ∙ ap₂ (outcome (q .call)) (mask-lent w q ∙ sym (mask-lent v q)) (same→seen e f s)
+      ∙ ap₂ (outcome (q .call)) (mask-lent w q ∙ sym (mask-lent v q)) (same→seen e f s level)
       ∙ blind (q .call) (lentTo v q) (shadowedBy (e .memory .shadow) f)
       ∙ outcome-same (e .memory .shadow) f lent-same (s .shadow .at) (q .call) (lentTo v q)
 
@@ -152,7 +152,7 @@ module _ (e f : Emulator) (s : Same e f) where
   unfolding after shadowedBy byteAt
   same-after o =
       let g : Emulator = shadowedBy (e .memory .shadow) f in
-      let seenAfter : seen (after o e) ≡ seen (after o g) = seen-after o e g (same→seen e f s) in
+      let seenAfter : seen (after o e) ≡ seen (after o g) = seen-after o e g (same→seen e f s level) in
       let bytes : edited (o .edits) (g .memory) .bytes ≡ edited (o .edits) (f .memory) .bytes = edited-bytes (o .edits) (g .memory) (f .memory) refl in
       let one = seen-parts (after o e) (after o g) seenAfter in
       record {
@@ -165,15 +165,15 @@ module _ (e f : Emulator) (s : Same e f) where
 -- ---- runs
 
 alike : (e f : Emulator) → Same e f → (qs : List Ask) (w v : ℕ → Others) → Alike (run e qs w) (run f qs v)
-unfolding run Alike turn event
+unfolding run Alike turn event disturbed
 alike e f s [] w v = tt
 alike e f s (q ∷ qs) w v =
-    let e′ : Emulator = disturbed (w 0) e in
-    let f′ : Emulator = disturbed (v 0) f in
-    let s′ : Same e′ f′ = same-disturbed (w 0) (v 0) e f s in
-    let o : outcome (q .call) (lentTo (w 0) q) e′ ≡ outcome (q .call) (lentTo (v 0) q) f′ = same-outcome e′ f′ s′ (w 0) (v 0) q in
+    let e′ : Emulator = disturbed (w 0) (q .room) e in
+    let f′ : Emulator = disturbed (v 0) (q .room) f in
+    let s′ : Same e′ f′ = same-disturbed (w 0) (v 0) (q .room) e f s in
+    let o : outcome (q .call) (lentTo (w 0) q) e′ ≡ outcome (q .call) (lentTo (v 0) q) f′ = same-outcome e′ f′ s′ refl (w 0) (v 0) q in
     let left : Same (after (outcome (q .call) (lentTo (w 0) q) e′ .effect) e′) (after (outcome (q .call) (lentTo (v 0) q) f′ .effect) f′) =
-    rw (← o) (same-after e′ f′ s′ (outcome (q .call) (lentTo (w 0) q) e′ .effect)) in
+    rw (← o) (same-after e′ f′ s′ refl (outcome (q .call) (lentTo (w 0) q) e′ .effect)) in
     (o, left, alike _ _ left qs (λ n. w (suc n)) (λ n. v (suc n)))
 
 pub agreement : (e f : Emulator) → Same e f → (qs : List Ask) (w v : ℕ → Others) → Alike (run e qs w) (run f qs v)

@@ -40,7 +40,7 @@ use Rattle.assurance.proofs.Overwrite.{length-overwrite, length-mask, m
 -- the emulator as a call may look at it: no unwritten byte is seen
 unfoldable pub seen : Emulator → Emulator
 seen e =
-    record { memory = record { bytes = mask (written (e .memory)) (e .memory .bytes); shadow = e .memory .shadow }; machine = e .machine }
+    record { memory = record { bytes = mask (written (e .memory)) (e .memory .bytes); shadow = e .memory .shadow }; room = e .room; machine = e .machine }
 
 -- a refused call has no effect, so effects need only agree where the checks pass
 outcome-eq : (u v : Verdict) (e f : Effect) (k : Machine) → u ≡ v → (u ≡ Pass → e ≡ f) → outcomeOf u e k ≡ outcomeOf v f k

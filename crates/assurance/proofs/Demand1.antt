@@ -11,6 +11,7 @@ use Rattle.answer.specs.declared.Verdict.the-variants.{Pass, Fail}
 use Rattle.iommu.specs.Requests.{translateChecks, mapChecks, unmapChecks}
 use Rattle.iommu.specs.declared.Translation.{Translation}
 use Rattle.iommu.specs.declared.Translation.the-variants.{At, Nowhere}
+use Rattle.iommu.specs.declared.Mapping.{Mapping}
 use Rattle.memory.specs.Memory.{Memory, edited}
 use Rattle.memory.specs.Shadow.{Shadow}
 use Rattle.memory.specs.Transfers.{unwrittenAt, unwrittenIn, hostWriteChecks, hostReadChecks, invalidateChecks}
@@ -27,7 +28,7 @@ use Rattle.emulator.specs.Machine.{Emulator, emulatorOf}
 use Rattle.emulator.specs.Effect.{effectOf, outcomeOf, after, filled}
 use Rattle.emulator.specs.Requests.{Request, getApiVersion, checkExtension, getIommuInfo, mapDma, unmapDma, getInfo, getRegionInfo, getIrqInfo, resetDevice, Entry, argszChecks, listedChecks, sizeChecks, requestChecks}
 use Rattle.emulator.specs.Calls.{Call, powerOn, request, lookUp, deviceRead, deviceWrite, hostWrite, hostRead, invalidate, setRegister, readRegister, loadParts, saveParts, stop, start, ownChecks, checks, effect, outcome}
-use Rattle.emulator.specs.Contract.{Meets, returned}
+use Rattle.emulator.specs.Contract.{Meets, returned, leftRecords}
 use Rattle.emulator.specs.declared.State.{State}
 use Rattle.assurance.specs.Demand1.{Listed, stepVerdict, Unchanged, Demand1}
 use Rattle.assurance.proofs.Answers.{refused-fails}
@@ -141,13 +142,14 @@ unfolding outcome outcomeOf effectOf filled after edited
 unchanged c buf e code place h =
     rw (refused-fails c buf e code place h) (record { pieces = refl; edits = refl; machine = refl; buffer = refl; emulator = refl })
 
-kept : (c : Call) (buf buf′ : List ℕ) (s s′ : State) (m m′ : Memory) (code place : ℕ) → Meets c buf s m (refused code place) buf′ m′ s′
-    → (buf′ ≡ buf) × (m′ ≡ m) × (s′ ≡ s)
-unfolding returned after emulatorOf
-kept c buf buf′ s s′ m m′ code place h =
-    let e : Emulator = emulatorOf s m in
+kept : (c : Call) (buf buf′ : List ℕ) (s s′ : State) (rs rs′ : List Mapping) (m m′ : Memory) (code place : ℕ) → Meets c buf s rs m (refused code place) buf′ m′ s′ rs′
+    → (buf′ ≡ buf) × (m′ ≡ m) × (s′ ≡ s) × (rs′ ≡ rs)
+unfolding returned leftRecords after emulatorOf
+kept c buf buf′ s s′ rs rs′ m m′ code place h =
+    let e : Emulator = emulatorOf s rs m in
     let u = unchanged c buf e code place (sym (h .answer)) in
-    (h .buffer ∙ u .buffer, h .memory ∙ ap (λ (x : Emulator). x .memory) (u .emulator), h .state ∙ rw (refused-fails c buf e code place (sym (h .answer))))
+    let fails = refused-fails c buf e code place (sym (h .answer)) in
+    (h .buffer ∙ u .buffer, h .memory ∙ ap (λ (x : Emulator). x .memory) (u .emulator), h .state ∙ rw fails, h .records ∙ rw fails)
 
 pub demand1 : Demand1
 unfolding outcome outcomeOf

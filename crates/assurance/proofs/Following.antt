@@ -55,9 +55,9 @@ translates l e h d =
 
 -- ---- others
 
-books-disturbed : (l : Ledger) (w : Others) (e : Emulator) → Books l e → Books l (disturbed w e)
+books-disturbed : (l : Ledger) (w : Others) (room : ℕ) (e : Emulator) → Books l e → Books l (disturbed w room e)
 unfolding disturbed byteAt written
-books-disturbed l w e h =
+books-disturbed l w room e h =
     record {
       bytes = record {
         level = length-overwrite _ _ (e .memory .bytes) ∙ h .bytes .level;
@@ -214,7 +214,7 @@ turn-follows : (l : Ledger) (q : Ask) (w : Others) (e : Emulator) → Books l e
     → OwedIf (turn w q e .outcome .answer) l (q .call) (length (q .buffer)) (turn w q e .buffer) × Books (fed (turn w q e .outcome .answer) q l) (turn w q e .left)
 unfolding turn event outcome lentTo
 turn-follows l q w e h =
-    call-follows q l (disturbed w e) (lentTo w q) (length-overwrite _ _ (q .buffer)) (books-disturbed l w e h) _ refl _ (lent-outcome w q (disturbed w e))
+    call-follows q l (disturbed w (q .room) e) (lentTo w q) (length-overwrite _ _ (q .buffer)) (books-disturbed l w (q .room) e h) _ refl _ (lent-outcome w q (disturbed w (q .room) e))
 
 follows : (l : Ledger) (e : Emulator) → Books l e → (qs : List Ask) (w : ℕ → Others) → Follows l qs (run e qs w)
 unfolding run Follows
@@ -232,8 +232,8 @@ ownLedger m = record { mappings = []; byte = λ a. some (byteAt m a) }
 fresh-books : (card : Card) (e : Emulator) → usable (given (powerOn card)) e ≡ true → Books empty (after (effect (powerOn card) [] e) e)
 unfolding usable lendable shadowLength given effect ownLedger find Apart ledgerAfter after poweredOn ownChecks
 fresh-books card e good =
-    let level : length (e .memory .bytes) ≡ marks (e .memory .shadow) = sym (eqb-true _ _ (and-true _ _ (and-true _ _ good .0) .0)) in
-    let bare : Emulator = record { memory = e .memory; machine = poweredOn card 0 } in
+    let level : length (e .memory .bytes) ≡ marks (e .memory .shadow) = sym (eqb-true _ _ (and-true _ _ (and-true _ _ (and-true _ _ good .0) .0) .0)) in
+    let bare : Emulator = record { memory = e .memory; room = e .room; machine = poweredOn card 0 } in
     let own : Books (ownLedger (e .memory)) bare = record { bytes = record { level = level; bytes = λ k p. refl }; maps = λ d. refl; apart = tt } in
     let r = books-after (powerOn card) (ownLedger (e .memory)) bare [] own good refl in
     record { bytes = r .bytes; maps = r .maps; apart = r .apart }

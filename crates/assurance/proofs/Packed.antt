@@ -77,12 +77,12 @@ edited-two (d ∷ ds) m n h = edited-two ds (edit d m) (edit d n) (edit-two d m 
 
 -- ---- calls
 
-module _ (bytes l w : List ℕ) (k : Machine) (h : Packs (length bytes) l w) where
+module _ (bytes l w : List ℕ) (room : ℕ) (k : Machine) (h : Packs (length bytes) l w) where
   due : length l ≡ shadowLength (packed (length bytes) l) (length bytes)
   unfolding shadowLength
   due = omega (arith, h .packedLength)
 
-  lent-same : lendable (withWide bytes w k .memory) ≡ lendable (withPacked bytes l k .memory)
+  lent-same : lendable (withWide bytes w room k .memory) ≡ lendable (withPacked bytes l room k .memory)
   unfolding lendable withWide withPacked shadowLength
   lent-same =
       rw (eq-eqb (length w) (length bytes) (h .wideLength), eq-eqb (length bytes) (length bytes) refl, eq-eqb (length l) (shadowLength (packed (length bytes) l) (length bytes)) due)
@@ -95,30 +95,31 @@ module _ (bytes l w : List ℕ) (k : Machine) (h : Packs (length bytes) l w) whe
       go true d = ap (λ (x : ℕ). eqb x 1) (sym (h .each (a .0) (ltb-true _ _ d)))
       go false d = rw (getD-out w (a .0) (omega (arith, ltb-false (a .0) (length bytes) d, h .wideLength)))
 
-  calls-same : (c : Call) (buf : List ℕ) → outcome c buf (withPacked bytes l k) ≡ outcome c buf (withWide bytes w k)
+  calls-same : (c : Call) (buf : List ℕ) → outcome c buf (withPacked bytes l room k) ≡ outcome c buf (withWide bytes w room k)
   unfolding withPacked withWide shadowedBy
-  calls-same c buf = sym (outcome-same (wide w) (withPacked bytes l k) lent-same marks-same c buf)
+  calls-same c buf = sym (outcome-same (wide w) (withPacked bytes l room k) lent-same marks-same c buf)
 
-  left-twins : (x : Effect) → Twins (after x (withPacked bytes l k)) (after x (withWide bytes w k))
+  left-twins : (x : Effect) → Twins (after x (withPacked bytes l room k)) (after x (withWide bytes w room k))
   unfolding after withPacked withWide
   left-twins x =
       let two : Two (edited (x .edits) (memoryOf bytes l)) (edited (x .edits) (record { bytes = bytes; shadow = wide w })) =
       edited-two (x .edits) _ _ (record { bytes = bytes; marks = l; wideMarks = w; first = refl; second = refl; packs = h }) in
       record {
         bytes = two .bytes;
+        room = room;
         machine = x .machine;
         marks = two .marks;
         wideMarks = two .wideMarks;
-        first = ap (λ (m : Memory). record { memory = m; machine = x .machine }) (two .first);
-        second = ap (λ (m : Memory). record { memory = m; machine = x .machine }) (two .second);
+        first = ap (λ (m : Memory). record { memory = m; room = room; machine = x .machine }) (two .first);
+        second = ap (λ (m : Memory). record { memory = m; room = room; machine = x .machine }) (two .second);
         packs = two .packs;
       }
 
 calls : (c : Call) (buf : List ℕ) (e f : Emulator) → Twins e f
     → (outcome c buf e ≡ outcome c buf f) × Twins (after (outcome c buf e .effect) e) (after (outcome c buf f .effect) f)
 calls c buf e f t =
-    let same = calls-same (t .bytes) (t .marks) (t .wideMarks) (t .machine) (t .packs) c buf in
-    rw (t .first, t .second) (same, rw (← same) (left-twins (t .bytes) (t .marks) (t .wideMarks) (t .machine) (t .packs) _))
+    let same = calls-same (t .bytes) (t .marks) (t .wideMarks) (t .room) (t .machine) (t .packs) c buf in
+    rw (t .first, t .second) (same, rw (← same) (left-twins (t .bytes) (t .marks) (t .wideMarks) (t .room) (t .machine) (t .packs) _))
 
 -- ---- all wide marks, and all packed ones
 
@@ -160,25 +161,25 @@ widen-at l a zero i h = absurd (omega arith)
 widen-at l a (suc n) zero h = let e : a + 0 ≡ a = omega arith in rw e
 widen-at l a (suc n) (suc i) h = let e : a + suc i ≡ a + 1 + i = omega arith in rw e (widen-at l (a + 1) n i (omega arith))
 
-twins : (bytes l w : List ℕ) (k : Machine) → Packs (length bytes) l w → Twins (withPacked bytes l k) (withWide bytes w k)
-twins bytes l w k h = record { bytes = bytes; machine = k; marks = l; wideMarks = w; first = refl; second = refl; packs = h }
+twins : (bytes l w : List ℕ) (room : ℕ) (k : Machine) → Packs (length bytes) l w → Twins (withPacked bytes l room k) (withWide bytes w room k)
+twins bytes l w room k h = record { bytes = bytes; room = room; machine = k; marks = l; wideMarks = w; first = refl; second = refl; packs = h }
 
 pub equivalence : Equivalence
 equivalence =
     record {
       calls = calls;
-      packing = λ bytes w k long small. (
+      packing = λ bytes w room k long small. (
         pack w (length w),
-        twins bytes (pack w (length w)) w k
+        twins bytes (pack w (length w)) w room k
             (record {
               packedLength = rw (← long) (pack-length w (length w));
               wideLength = long;
               each = λ a b. pack-at w small (length w) (omega arith) a (omega arith);
             }),
       );
-      widening = λ bytes l k long. (
+      widening = λ bytes l room k long. (
         widen l 0 (length bytes),
-        twins bytes l (widen l 0 (length bytes)) k
+        twins bytes l (widen l 0 (length bytes)) room k
             (record {
               packedLength = long;
               wideLength = widen-length l 0 (length bytes);

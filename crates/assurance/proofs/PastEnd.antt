@@ -31,7 +31,7 @@ use Rattle.memory.specs.Memory.{Memory, memoryOf, Edit, put, clear, edit, edite
 use Rattle.memory.proofs.Marks.{marked-length}
 use Rattle.memory.proofs.Transfers.{host-write-room, invalidate-room}
 use Rattle.dma.specs.Transfers.{writeFault, deviceWriteChecks, location, scatter}
-use Rattle.emulator.specs.Machine.{Machine, Emulator, machineOf, emulatorOf, both, usable, lendable, poweredOn, asNoted, sound, soundMappings}
+use Rattle.emulator.specs.Machine.{Machine, Emulator, machineOf, emulatorOf, both, usable, lendable, lendableRecords, poweredOn, asNoted, sound, soundMappings}
 use Rattle.emulator.specs.Effect.{effectOf, outcomeOf, after}
 use Rattle.emulator.specs.Requests.{Request, getApiVersion, checkExtension, getIommuInfo, mapDma, unmapDma, getInfo, getRegionInfo, getIrqInfo, resetDevice, Entry, identify, requestEffect, listedEffect}
 use Rattle.emulator.specs.Calls.{Call, powerOn, request, lookUp, deviceRead, deviceWrite, hostWrite, hostRead, invalidate, setRegister, readRegister, loadParts, saveParts, stop, start, given, ownChecks, checks, effect, outcome}
@@ -161,12 +161,12 @@ outcome-below c buf e = verdict-below c buf e (checks c buf e) refl
 
 -- ---- the statement
 
-past-end : (c : Call) (buf bytes bytes′ marks marks′ : List ℕ) (k k′ : Machine)
-    → after (outcome c buf (withPacked bytes marks k) .effect) (withPacked bytes marks k) ≡ withPacked bytes′ marks′ k′
+past-end : (c : Call) (buf bytes bytes′ marks marks′ : List ℕ) (room room′ : ℕ) (k k′ : Machine)
+    → after (outcome c buf (withPacked bytes marks room k) .effect) (withPacked bytes marks room k) ≡ withPacked bytes′ marks′ room′ k′
     → (length marks′ ≡ length marks) × ((i : ℕ) → length bytes ≤ i → bitOf marks′ i ≡ bitOf marks i)
 unfolding after withPacked keptAt
-past-end c buf bytes bytes′ marks marks′ k k′ h =
-    let e : Emulator = withPacked bytes marks k in
+past-end c buf bytes bytes′ marks marks′ room room′ k k′ h =
+    let e : Emulator = withPacked bytes marks room k in
     let ds : List Edit = outcome c buf e .effect .edits in
     let left : edited ds (memoryOf bytes marks) ≡ memoryOf bytes′ marks′ = ap (λ (x : Emulator). x .memory) h in (
       sym (ap (λ (m : Memory). markBytes (m .shadow)) left) ∙ edited-long ds (memoryOf bytes marks),
@@ -174,9 +174,9 @@ past-end c buf bytes bytes′ marks marks′ k k′ h =
     )
 
 eleven-bytes : (card : Card) (k : Machine)
-    → let e = withPacked (replicate 11 0xA5) (0xFF ∷ 0xFF ∷ []) k in
-    after (outcome (powerOn card) [] e .effect) e ≡ withPacked (replicate 11 0xA5) (0x00 ∷ 0xF8 ∷ []) (poweredOn card 11)
-unfolding withPacked outcome outcomeOf effectOf checks ownChecks given usable lendable shadowLength _and_ _then_ _unless_ effect after edited edit clears marked pick bit withBit
+    → let e = withPacked (replicate 11 0xA5) (0xFF ∷ 0xFF ∷ []) 64 k in
+    after (outcome (powerOn card) [] e .effect) e ≡ withPacked (replicate 11 0xA5) (0x00 ∷ 0xF8 ∷ []) 64 (poweredOn card 11)
+unfolding withPacked outcome outcomeOf effectOf checks ownChecks given usable lendable lendableRecords shadowLength _and_ _then_ _unless_ effect after edited edit clears marked pick bit withBit
 eleven-bytes card k = refl
 
 pub pastEnd : PastEnd
@@ -184,8 +184,8 @@ unfolding after withPacked emulatorOf
 pastEnd =
     record {
       outcomes = past-end;
-      code = λ c buf buf′ bytes bytes′ marks marks′ s s′ r meets.
-          past-end c buf bytes bytes′ marks marks′ (machineOf s) _
-          (ap (λ (m : Memory). record { memory = m; machine = outcome c buf (emulatorOf s (memoryOf bytes marks)) .effect .machine }) (sym (meets .memory)));
+      code = λ c buf buf′ bytes bytes′ marks marks′ s s′ rs rs′ r meets.
+          past-end c buf bytes bytes′ marks marks′ (length rs) (length rs) (machineOf s rs) _
+          (ap (λ (m : Memory). record { memory = m; room = length rs; machine = outcome c buf (emulatorOf s rs (memoryOf bytes marks)) .effect .machine }) (sym (meets .memory)));
       eleven = eleven-bytes;
     }

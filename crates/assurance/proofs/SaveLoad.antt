@@ -41,7 +41,7 @@ accepted e buf n a =
     (and-true _ _ (unless-pass _ _ (both .0)) .1, rw (r .0, ← size) (front-taken buf _ room))
 
 -- the stream of a sound register file, loaded on the same card
-loaded : (f : Emulator) (w : ℕ) (file : File) (s : List ℕ) → length file ≡ keptCount → soundFile w file ≡ true → s ≡ saved w file → sound (f .machine) ≡ true
+loaded : (f : Emulator) (w : ℕ) (file : File) (s : List ℕ) → length file ≡ keptCount → soundFile w file ≡ true → s ≡ saved w file → sound (f .room) (f .machine) ≡ true
     → f .machine .running ≡ false → w ≡ f .machine .words
     → outcome loadParts s f ≡ record { answer = done (value 0); effect = leaving (withRegisters file (f .machine)) }
 unfolding outcome outcomeOf checks ownChecks effect given usable _then_ _unless_ settle effectOf verdict resultOr RoundTrip sound soundCard
@@ -55,9 +55,9 @@ unfolding emulatorOf machineOf fileOf returned writes stateWith withRegisters
 save-load =
     record {
       outcomes = λ e f buf n long a good stopped same. let r = accepted e buf n a in loaded f _ _ _ long (r .0) (r .1) good stopped same;
-      code = λ s s′ t t′ m m′ k k′ buf saved stream n r long h good stopped same g.
-          let a = accepted (emulatorOf s m) buf n (sym (h .answer)) in
-          let o = loaded (emulatorOf t k) (s .words) (fileOf (s .words) (s .registers)) (take n saved) (length-file (s .words) 1 (s .registers .slots) ∙ long) (a .0) (ap (take n) (h .buffer) ∙ a .1) good stopped same in
+      code = λ s s′ t t′ rs rs′ us us′ m m′ k k′ buf saved stream n r long h good stopped same g.
+          let a = accepted (emulatorOf s rs m) buf n (sym (h .answer)) in
+          let o = loaded (emulatorOf t us k) (s .words) (fileOf (s .words) (s .registers)) (take n saved) (length-file (s .words) 1 (s .registers .slots) ∙ long) (a .0) (ap (take n) (h .buffer) ∙ a .1) good stopped same in
           let answer = ap (λ (x : Outcome). x .answer) o in
-          (g .answer ∙ answer, g .state ∙ rw (accepted-passes loadParts (take n saved) (emulatorOf t k) (value 0) answer .0, o));
+          (g .answer ∙ answer, g .state ∙ rw (accepted-passes loadParts (take n saved) (emulatorOf t us k) (value 0) answer .0, o));
     }

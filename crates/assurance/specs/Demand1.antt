@@ -7,6 +7,7 @@ use Rattle.answer.specs.Codes.{BadBench, NoSpace}
 use Rattle.answer.specs.Answer.{refused, verdict}
 use Rattle.answer.specs.declared.Verdict.{Verdict}
 use Rattle.answer.specs.declared.Verdict.the-variants.{Pass, Fail}
+use Rattle.iommu.specs.declared.Mapping.{Mapping}
 use Rattle.memory.specs.Memory.{Memory}
 use Rattle.parts.specs.Step.{stepAt}
 use Rattle.parts.specs.declared.Step.{Step}
@@ -44,8 +45,8 @@ pub record Demand1 : Type 0 where
   -- a refusal changes nothing;
   pub unchanged : (c : Call) (buf : List ℕ) (e : Emulator) (code place : ℕ) → outcome c buf e .answer ≡ refused code place
       → Unchanged buf e (outcome c buf e .effect)
-  -- where the code refuses, it leaves the buffer, memory with its marks, and the whole struct as it got them.
-  pub kept : (c : Call) (buf buf′ : List ℕ) (s s′ : State) (m m′ : Memory) (code place : ℕ) → Meets c buf s m (refused code place) buf′ m′ s′
-      → (buf′ ≡ buf) × (m′ ≡ m) × (s′ ≡ s)
+  -- where the code refuses, it leaves the buffer, memory with its marks, the whole struct and every record as it got them.
+  pub kept : (c : Call) (buf buf′ : List ℕ) (s s′ : State) (rs rs′ : List Mapping) (m m′ : Memory) (code place : ℕ) → Meets c buf s rs m (refused code place) buf′ m′ s′ rs′
+      → (buf′ ≡ buf) × (m′ ≡ m) × (s′ ≡ s) × (rs′ ≡ rs)
   -- A walker step, at any place of any stream, gives a part, the end, or a refusal by a listed number.
   pub steps : (s : List ℕ) (p : ℕ) → Listed (stepVerdict (stepAt s p))

@@ -1,10 +1,8 @@
 -- The demands on the emulator, as one type: start reading here. proofs/Demands.antt has its term.
 --
 -- What a call means is its `outcome` (emulator/specs/Calls.antt): its answer, and all that it writes and leaves. That the code does just that
--- is the contract of each public function, `Meets` (emulator/specs/Contract.antt), for any arguments, buffer, memory and state:
---     crates/emulator/src/lib.rt   fresh start, look-up, transfers, invalidation, registers, parts, stop and start
---     crates/vfio/src/lib.rt       requests
---     crates/capi/src/lib.rt       all of these, as C calls them
+-- is the contract of each exported function (crates/capi/src/lib.rt): `Meets` (emulator/specs/Contract.antt), for any arguments, buffer,
+-- memory, records and state, with the answer as C's struct.
 -- A walker step over a stream of parts means `stepAt` (parts/specs/Step.antt); so promise crates/parts/src/lib.rt and crates/reader/src/lib.rt.
 -- specs/Examples.antt works out two runs; tests/definitions/ has edits of definitions that the proofs below refuse, all but that of `sessions`.
 use Rattle.parts.specs.RoundTrip.{RoundTrip}
@@ -25,7 +23,7 @@ pub record Demands : Type 0 where
   pub saveLoad : SaveLoad
   -- the worked values are right, each an answer and a whole buffer.
   pub starred : Starred
-  -- Demand 3. For every list of calls, whatever others write meanwhile to unwritten memory and to stale bytes of buffers: emulators that
+  -- Demand 3. For every list of calls, whatever others write meanwhile to unwritten memory, stale records and stale bytes of buffers: emulators that
   -- differ in nothing but those answer and write the same; and from a fresh start on, accepted reads give what the ledger holds;
   pub demand3 : Demand3
   -- and so do sessions of the code, in which each call meets its contract.

@@ -24,6 +24,7 @@ unfoldable pub filledWith : ℕ → Emulator
 filledWith x =
     record {
       memory = record { bytes = replicate 8 x; shadow = packed 8 (255 ∷ []) };
+      room = 0;
       machine = record { memoryLength = 8; count = 0; mappings = []; registers = blank; running = true; words = 1 };
     }
 

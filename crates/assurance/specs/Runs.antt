@@ -1,5 +1,7 @@
 -- Runs: a list of calls on an emulator, with others writing before each call (rule 8.7).
--- What one call leaves the next one gets; in between others write what they like, but only where memory is unwritten or a buffer stale.
+-- What one call leaves the next one gets, with the records in use, in a slice that may be another one each time; in between others write what
+-- they like, but only where memory is unwritten, a buffer stale or a record not in use. Such a record has no part in a run: it has none in
+-- what the kept state means. Sessions of the code (Session.antt) say what may stand there.
 use Prim.Native.Nat.{ℕ, suc}
 use mathlib.Core.Path.{_≡_}
 use mathlib.Core.Bool.{Bool, true}
@@ -14,10 +16,11 @@ use Rattle.emulator.specs.Effect.{Outcome, after, filled}
 use Rattle.emulator.specs.Calls.{Call, input, outcome}
 use Rattle.assurance.specs.Overwrite.{overwrite}
 
--- a call, and the buffer lent to it
+-- a call, the buffer lent to it, and how many records it is lent
 pub record Ask : Type 0 where
   pub call : Call
   pub buffer : List ℕ
+  pub room : ℕ
 
 -- what others leave at each memory address that is not written, and at each stale offset of the buffer
 pub record Others : Type 0 where
@@ -28,10 +31,14 @@ pub record Others : Type 0 where
 unfoldable pub written : Memory → ℕ → Bool
 written m a = initialized (m .shadow) (memoryAddress a)
 
--- the emulator once others have written: marks and state are not theirs to change (rule 1.5)
-unfoldable pub disturbed : Others → Emulator → Emulator
-disturbed w e =
-    record { memory = record { bytes = overwrite (written (e .memory)) (w .memory) (e .memory .bytes); shadow = e .memory .shadow }; machine = e .machine }
+-- the emulator as it is lent to a call with `room` records, once others have written: marks and state are not theirs to change (rule 1.5)
+unfoldable pub disturbed : Others → ℕ → Emulator → Emulator
+disturbed w room e =
+    record {
+      memory = record { bytes = overwrite (written (e .memory)) (w .memory) (e .memory .bytes); shadow = e .memory .shadow };
+      room = room;
+      machine = e .machine;
+    }
 
 -- the buffer as the call gets it
 unfoldable pub lentTo : Others → Ask → List ℕ
@@ -48,15 +55,16 @@ event o buf e = record { outcome = o; buffer = filled (o .effect .pieces) buf; l
 
 -- one call, once others have written
 unfoldable pub turn : Others → Ask → Emulator → Event
-turn w q e = event (outcome (q .call) (lentTo w q) (disturbed w e)) (lentTo w q) (disturbed w e)
+turn w q e = event (outcome (q .call) (lentTo w q) (disturbed w (q .room) e)) (lentTo w q) (disturbed w (q .room) e)
 
 -- the calls of a list in order, each on the emulator as the last left it; `w n` is what others write before call n
 unfoldable pub run : Emulator → List Ask → (ℕ → Others) → List Event
 run e [] w = []
 run e (q ∷ qs) w = let v = turn (w 0) q e in v ∷ run (v .left) qs (λ n. w (suc n))
 
--- Two emulators that agree on all but unwritten memory: the kept states mean the same, so that both are the same card, marks are as many and
--- the same for each byte, and memories have one length and agree wherever a byte is marked written. Neither need be sound.
+-- Two emulators that agree on all but unwritten memory: the kept states mean the same, so that both are the same card and hold the same
+-- mappings, marks are as many and the same for each byte, and memories have one length and agree wherever a byte is marked written. Neither
+-- need be sound. How many records are lent is for each call to say, and the same for both.
 pub record Same (e f : Emulator) : Type 0 where
   pub machine : e .machine ≡ f .machine
   pub shadow : SameMarks (e .memory .shadow) (f .memory .shadow)

@@ -5,6 +5,7 @@ use mathlib.Core.Bool.{true, false}
 use mathlib.Core.List.{List}
 use lib.ListN.{length, take}
 use Rattle.answer.specs.Answer.{Answer, done}
+use Rattle.iommu.specs.declared.Mapping.{Mapping}
 use Rattle.memory.specs.Memory.{Memory}
 use Rattle.registers.specs.File.{keptCount, fileOf, slotsOf}
 use Rattle.emulator.specs.Machine.{Emulator, machineOf, sound, withRegisters}
@@ -19,11 +20,11 @@ use Rattle.emulator.specs.declared.State.{State}
 pub record SaveLoad : Type 0 where
   -- as the two calls are defined, from the emulator `e` into the emulator `f`
   pub outcomes : (e f : Emulator) (buf : List ℕ) (n : ℕ) → length (e .machine .registers) ≡ keptCount
-      → outcome saveParts buf e .answer ≡ done (value n) → sound (f .machine) ≡ true → f .machine .running ≡ false → e .machine .words ≡ f .machine .words
+      → outcome saveParts buf e .answer ≡ done (value n) → sound (f .room) (f .machine) ≡ true → f .machine .running ≡ false → e .machine .words ≡ f .machine .words
       → outcome loadParts (take n (filled (outcome saveParts buf e .effect .pieces) buf)) f
       ≡ record { answer = done (value 0); effect = leaving (withRegisters (e .machine .registers) (f .machine)) }
   -- as the code does it, from the state `s` into the state `t`: it answers 0, and returns `t` with the saved registers, as code writes them
-  pub code : (s s′ t t′ : State) (m m′ k k′ : Memory) (buf saved stream : List ℕ) (n : ℕ) (r : Answer Result) → length (s .registers .slots) ≡ keptCount
-      → Meets saveParts buf s m (done (value n)) saved m′ s′ → sound (machineOf t) ≡ true → machineOf t .running ≡ false → s .words ≡ t .words
-      → Meets loadParts (take n saved) t k r stream k′ t′
+  pub code : (s s′ t t′ : State) (rs rs′ us us′ : List Mapping) (m m′ k k′ : Memory) (buf saved stream : List ℕ) (n : ℕ) (r : Answer Result) → length (s .registers .slots) ≡ keptCount
+      → Meets saveParts buf s rs m (done (value n)) saved m′ s′ rs′ → sound (length us) (machineOf t us) ≡ true → machineOf t us .running ≡ false → s .words ≡ t .words
+      → Meets loadParts (take n saved) t us k r stream k′ t′ us′
       → (r ≡ done (value 0)) × (t′ ≡ withRegistersIn (record { slots = slotsOf (fileOf (s .words) (s .registers)) }) t)

@@ -1,10 +1,10 @@
--- The worked values of rules 7.1 to 7.12 and 7.19 to 7.22, as one table under one statement (rule 8.5).
+-- The worked values of rules 7.1 to 7.12, 7.19 to 7.22 and 7.26 to 7.29, as one table under one statement (rule 8.5).
 use Prim.Native.Nat.{ℕ, _+_, _-_, _/_, _^_}
 use mathlib.Core.Path.{_≡_}
 use mathlib.Core.Bool.{Bool}
 use mathlib.Core.List.{List, [], _∷_, _++_}
 use lib.ListN.{length, replicate}
-use Rattle.answer.specs.Codes.{Empty, Range, Cuts, Unwritten, Twice, Value, Mismatch, Missing}
+use Rattle.answer.specs.Codes.{BadBench, Empty, Range, Overlap, NoRoom, Cuts, Unwritten, Twice, Value, Mismatch, Missing}
 use Rattle.answer.specs.Answer.{Answer, done, refused}
 use Rattle.address.specs.Address.{page, deviceLimit, deviceAddress, memoryAddress}
 use Rattle.memory.specs.Shadow.{packed}
@@ -15,11 +15,15 @@ use Rattle.registers.specs.declared.Card.the-variants.{Features64, Features128}
 use Rattle.emulator.specs.Machine.{Emulator, poweredOn}
 use Rattle.emulator.specs.Effect.{Result, value, Outcome, after, filled}
 use Rattle.emulator.specs.Requests.{container, device}
-use Rattle.emulator.specs.Calls.{Call, request, deviceRead, hostWrite, setRegister, loadParts, saveParts, outcome}
+use Rattle.emulator.specs.Calls.{Call, powerOn, request, deviceRead, hostWrite, setRegister, loadParts, saveParts, stop, outcome}
 use Rattle.assurance.specs.Runs.{Ask}
 
+-- an emulator that is lent so many records
+unfoldable pub lentRecords : ℕ → Emulator → Emulator
+lentRecords room e = record { memory = e .memory; room = room; machine = e .machine }
+
 unfoldable pub outcomeTo : Ask → Emulator → Outcome
-outcomeTo q e = outcome (q .call) (q .buffer) e
+outcomeTo q e = outcome (q .call) (q .buffer) (lentRecords (q .room) e)
 
 -- the emulator behind a list of calls
 unfoldable pub behind : List Ask → Emulator → Emulator
@@ -38,7 +42,7 @@ pub record Case : Type 0 where
 -- as power on leaves it: nothing is written, whatever bytes stand there
 abbrev pub fresh : Card → Emulator
 fresh card =
-    record { memory = record { bytes = replicate (page + page) 0xA5; shadow = packed (page + page) (replicate (page / 4) 0) }; machine = poweredOn card (page + page) }
+    record { memory = record { bytes = replicate (page + page) 0xA5; shadow = packed (page + page) (replicate (page / 4) 0) }; room = 0; machine = poweredOn card (page + page) }
 
 unfoldable pub outcomeIn : Case → Outcome
 outcomeIn c = outcomeTo (c .ask) (behind (c .before) (fresh (c .card)))
@@ -56,7 +60,12 @@ pub data AllRight : List Case → Type 0 where
 
 infix 5 _lent_
 abbrev pub _lent_ : Call → List ℕ → Ask
-c lent buf = record { call = c; buffer = buf }
+c lent buf = record { call = c; buffer = buf; room = 64 }
+
+-- the same, with another number of records
+infix 4 _within_
+abbrev pub _within_ : Ask → ℕ → Ask
+q within room = record { call = q .call; buffer = q .buffer; room = room }
 
 -- a byte that nobody filled in
 abbrev pub stale : ℕ → List ℕ
@@ -151,6 +160,17 @@ cases =
     ∷ answersOn Features128 [] (setRegister DriverFeatures 0 lent bytesOf 8 0 ++ bytesOf 8 1) (gives 0)
     -- rule 7.22: bit 1 of it
     ∷ answersOn Features128 [] (setRegister DriverFeatures 0 lent bytesOf 8 0 ++ bytesOf 8 2) (refused Mismatch 0)
+    -- rule 7.26: with one record a second mapping has no place, and one that overlaps the first is 10 all the same
+    ∷ answers ((mapAt 0 4096 within 1) ∷ []) (mapAt 4096 4096 within 1) (refused NoRoom 0)
+    ∷ answers ((mapAt 0 4096 within 1) ∷ []) (mapAt 0 4096 within 1) (refused Overlap 0)
+    -- rule 7.27: with no record there is no place for any, and a host store goes on
+    ∷ answers [] (mapAt 0 4096 within 0) (refused NoRoom 0)
+    ∷ answers [] (hostWrite (memoryAddress 0) lent 0x5A ∷ [] within 0) (gives 0)
+    -- rule 7.28: 4,097 records are too many, for a fresh start too
+    ∷ answers [] (powerOn Features64 lent [] within 4097) (refused BadBench 0)
+    ∷ answers [] (powerOn Features64 lent [] within 4096) (gives 0)
+    -- rule 7.29: fewer records than are in use
+    ∷ answers (mapAt 0 4096 ∷ []) (stop lent [] within 0) (refused BadBench 0)
     ∷ []
 
 -- The statement: all of them are right. proofs/Starred.antt has its term.

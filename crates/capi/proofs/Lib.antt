@@ -1,2 +1,3 @@
 mod Answers
-mod Borrowed
+pub mod Calls
+pub mod Contracts

@@ -1,6 +1,7 @@
 -- Answers as C has them (rule 8.11). Each definition gives a struct whole: what an answer has no use for is 0.
 use Prim.Native.Nat.{ℕ, _+_, _-_}
 use mathlib.Core.Bool.{Bool, true, false, not, cond}
+use Rattle.answer.specs.Codes.{BadBench}
 use Rattle.answer.specs.Answer.{Answer, done, refused}
 use Rattle.address.specs.Address.{memoryAddress}
 use Rattle.emulator.specs.Effect.{Result, value, location}
@@ -26,6 +27,10 @@ abbrev pub answerStruct : Answer Result → Outcome
 answerStruct (done (value n)) = success n
 answerStruct (done (location a rights)) = success 0
 answerStruct (refused code place) = refusal code place
+
+-- a call that is done wherever refusal 1 passes
+abbrev pub doneIf : Bool → Outcome
+doneIf ok = cond ok (success 0) (refusal BadBench 0)
 
 -- look-up's answer
 abbrev pub foundStruct : Answer Result → Found

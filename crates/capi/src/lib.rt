@@ -1,26 +1,50 @@
-// What C and Rust link: every call with C's calling convention, thin over the proved call and with its promise. A byte slice is passed
-// as a pointer and a length; the kept state goes in by value and comes back by value, but for loading and saving parts, which borrow it.
-// include/glintbasket.h declares these functions.
+// What C and Rust link: every call with C's calling convention. Each borrows the kept state and is lent the records, and with them memory,
+// marks and a buffer where its rule says so; a slice is passed as a pointer and a length. None asks anything of its caller (rule 8.1), and
+// each contract determines the answer, every lent byte and record, and the state (rule 8.2). include/glintbasket.h declares these functions.
 use address::DeviceAddress;
 use address::MemoryAddress;
 use answer::Answer;
+use answer::Verdict;
+use dma::Checked;
+use emulator::Changed;
 use emulator::Location;
-use emulator::Reply;
 use emulator::State;
+use iommu::Mapping;
+use iommu::Search;
+use iommu::Unmap;
 use parts::Step;
 use registers::Card;
 use registers::Registers;
+use vfio::Admission;
+use vfio::Map;
 ghost use mathlib.Core.Path.{_≡_};
+ghost use mathlib.Core.Bool.{true, false, not};
 ghost use mathlib.Core.List.{List, []};
-ghost use Rattle.address.specs.Address.{deviceAddress, memoryAddress};
-ghost use Rattle.memory.specs.Memory.{Memory};
-ghost use Rattle.registers.specs.Cards.{wordsOf};
+ghost use Prim.Native.Nat.{_*_, _≤_};
+ghost use lib.ListN.{length as lengthOf};
+ghost use Rattle.answer.specs.Tests.{_and_, pick};
+ghost use Rattle.answer.specs.Codes.{BadBench};
+ghost use Rattle.answer.specs.Checks.{_then_, _unless_, passes};
+ghost use Rattle.answer.specs.Answer.{settle};
+ghost use Rattle.answer.specs.declared.Verdict.the-variants.{Pass};
+ghost use Rattle.address.specs.Address.{deviceAddress, memoryAddress, memoryLimit};
+ghost use Rattle.iommu.specs.Table.{tableOf, holds, inRange, shownBy, translate};
+ghost use Rattle.iommu.specs.declared.Mapping.{Mapping as MappingRecord};
+ghost use Rattle.memory.specs.Memory.{memoryOf};
+ghost use Rattle.dma.specs.Walk.{Ready};
+ghost use Rattle.registers.specs.Cards.{isCard, wordsOf};
 ghost use Rattle.registers.specs.declared.Card.the-variants.{Features64, Features128};
 ghost use Rattle.conformance.specs.Saves.{NumberAnswers};
-ghost use Rattle.emulator.specs.Calls.{powerOn, request, lookUp, deviceRead, deviceWrite, hostWrite, hostRead, invalidate, setRegister, readRegister, loadParts, saveParts, stop, start};
+ghost use Rattle.emulator.specs.Machine.{machineOf, emulatorOf, both as stateAndMemory, sound as soundMachine, lendable as canLend, usable as canUse};
+ghost use Rattle.emulator.specs.Effect.{value};
+ghost use Rattle.emulator.specs.Requests.{sizeChecks};
+ghost use Rattle.emulator.specs.Calls.{powerOn, request, deviceRead, deviceWrite, hostWrite, hostRead, invalidate, setRegister, readRegister, loadParts, saveParts, stop, start};
 ghost use Rattle.emulator.specs.Contract.{lentMemory, leftMemory, remarkedMemory, told, toldLocation};
-ghost use Rattle.capi.specs.Structs.{success as succeeded, refusal as refused, answerStruct, foundStruct, noPart, keptBy};
-ghost use Rattle.capi.specs.Contract.{Returns, Tells, TellsAlone, Steps};
+ghost use Rattle.emulator.specs.declared.State.{State as StateRecord};
+ghost use Rattle.vfio.specs.Entries.{entryAt};
+ghost use Rattle.vfio.specs.Handlers.{mapIndex, unmapIndex};
+ghost use Rattle.capi.specs.Structs.{success as succeeded, refusal as refused, answerStruct, doneIf, foundStruct, noPart, keptBy};
+ghost use Rattle.capi.specs.Contract.{Tells, TellsAlone, FindsAt, IsNot, Fits, Replied, Handled, Judged, Steps};
 
 // An answer: a result, or the number and the place of a refusal.
 #[repr(C)]
@@ -29,13 +53,6 @@ pub struct Outcome {
     pub code: u32,
     pub place: u64,
     pub result: u64,
-}
-
-// An answer, and the state to keep.
-#[repr(C)]
-pub struct Kept {
-    pub outcome: Outcome,
-    pub state: State,
 }
 
 // Look-up's answer: its result is a memory address and rights.
@@ -116,149 +133,397 @@ fn location(l: Location) -> Found
     }
 }
 
-fn with_state(r: Reply) -> Kept
-    ensures { λ k. ⌜ (k .outcome ≡ answerStruct (told (r .answer))) × (k .state ≡ r .state) ⌝ }
+// What a call answers that is done wherever refusal 1 passes.
+fn done_if(ok: bool) -> Outcome
+    ensures { λ r. ⌜ r ≡ doneIf ok ⌝ }
 {
-    let answer = r.answer;
-    let state = r.state;
-    let outcome = numbers(answer);
-    Kept { outcome, state }
+    if ok {
+        return success(0);
+    }
+    refusal(answer::BAD_BENCH, 0)
 }
 
-fn power_on(state: State, card: Card, bytes: &[u8], shadow: &mut [u8]) -> Kept
-    ensures { λ r. ⌜ Tells (powerOn card) [] state (lentMemory bytes shadow) (r .outcome) [] (remarkedMemory bytes shadow) (r .state) ⌝ }
+fn device_at(address: u64) -> DeviceAddress
+    ensures { λ r. ⌜ r ≡ deviceAddress address ⌝ }
 {
-    with_state(emulator::power_on(state, card, bytes, shadow))
+    DeviceAddress(address)
 }
+
+// ---- the calls. Each borrows the kept state and the records, and is lent memory and marks where its rule says so.
 
 // Fresh start of the first card.
 #[no_mangle]
-pub extern "C" fn glint_power_on(state: State, bytes: &[u8], shadow: &mut [u8]) -> Kept
-    ensures { λ r. ⌜ Tells (powerOn Features64) [] state (lentMemory bytes shadow) (r .outcome) [] (remarkedMemory bytes shadow) (r .state) ⌝ }
+pub extern "C" fn glint_power_on(
+    state: &mut State,
+    records: &[Mapping],
+    bytes: &[u8],
+    shadow: &mut [u8],
+) -> Outcome
+    ensures { λ r. ⌜ Tells (powerOn Features64) [] (now (state .entry)) (now (records .entry)) (lentMemory bytes shadow) r [] (remarkedMemory bytes shadow) (now (state .exit)) (now (records .entry)) ⌝ }
 {
-    power_on(state, Card::Features64, bytes, shadow)
+    let ok = emulator::clear_marks(records.len(), bytes, shadow);
+    if ok {
+        *state = emulator::fresh_64(bytes.len());
+    }
+    done_if(ok)
 }
 
 // Fresh start of the second card, which has 128 feature bits.
 #[no_mangle]
-pub extern "C" fn glint_power_on_128(state: State, bytes: &[u8], shadow: &mut [u8]) -> Kept
-    ensures { λ r. ⌜ Tells (powerOn Features128) [] state (lentMemory bytes shadow) (r .outcome) [] (remarkedMemory bytes shadow) (r .state) ⌝ }
+pub extern "C" fn glint_power_on_128(
+    state: &mut State,
+    records: &[Mapping],
+    bytes: &[u8],
+    shadow: &mut [u8],
+) -> Outcome
+    ensures { λ r. ⌜ Tells (powerOn Features128) [] (now (state .entry)) (now (records .entry)) (lentMemory bytes shadow) r [] (remarkedMemory bytes shadow) (now (state .exit)) (now (records .entry)) ⌝ }
 {
-    power_on(state, Card::Features128, bytes, shadow)
+    let ok = emulator::clear_marks(records.len(), bytes, shadow);
+    if ok {
+        *state = emulator::fresh_128(bytes.len());
+    }
+    done_if(ok)
+}
+
+fn mapped(m: Map) -> Outcome
+    ensures { λ r. ⌜ r ≡ answerStruct (settle (m .verdict) (value 0)) ⌝ }
+{
+    let verdict = m.verdict;
+    numbers(answer::settle(verdict, 0))
+}
+
+fn unmapped(u: Unmap) -> Outcome
+    ensures { λ r. ⌜ r ≡ answerStruct (settle (u .verdict) (value 0)) ⌝ }
+{
+    let verdict = u.verdict;
+    numbers(answer::settle(verdict, 0))
+}
+
+fn answered(a: Admission, buf: &mut [u8]) -> Outcome
+    requires { ⌜ (a .verdict ≡ Pass → sizeChecks (entryAt (a .index)) (now buf) ≡ Pass) ⌝ }
+    ensures { λ r. ⌜ Replied a (now (buf .entry)) r (now (buf .exit)) ⌝ }
+{
+    numbers(vfio::reply(a, buf))
+}
+
+// An admitted request that changes no mapping: a reset of the device, or one that its buffer alone answers.
+fn answer_request(state: &mut State, a: Admission, buf: &mut [u8]) -> Outcome
+    requires { ⌜ (a .verdict ≡ Pass → sizeChecks (entryAt (a .index)) (now buf) ≡ Pass) ⌝ }
+    ensures { λ r. ⌜ ((rs : List MappingRecord) → IsNot mapIndex a → IsNot unmapIndex a → Handled a (now (buf .entry)) (now (state .entry)) rs r (now (buf .exit)) (now (state .exit)) rs) ⌝ }
+{
+    if vfio::resets(a) {
+        state.registers = registers::reset();
+    }
+    answered(a, buf)
+}
+
+// One that adds no mapping: an unmap, or one that changes none.
+fn unmap_or_answer(
+    state: &mut State,
+    records: &mut [Mapping],
+    a: Admission,
+    buf: &mut [u8],
+) -> Outcome
+    requires { ⌜ Fits a (now buf) (now state) (now records) ⌝ }
+    ensures { λ r. ⌜ (IsNot mapIndex a → Handled a (now (buf .entry)) (now (state .entry)) (now (records .entry)) r (now (buf .exit)) (now (state .exit)) (now (records .exit))) ⌝ }
+{
+    if vfio::unmaps(a) {
+        return unmapped(vfio::unmap_dma(state, records, buf));
+    }
+    answer_request(state, a, buf)
+}
+
+// An admitted request, or one that checks 1 to 4 refused.
+fn handle(state: &mut State, records: &mut [Mapping], a: Admission, buf: &mut [u8]) -> Outcome
+    requires { ⌜ Fits a (now buf) (now state) (now records) ⌝ }
+    ensures { λ r. ⌜ Handled a (now (buf .entry)) (now (state .entry)) (now (records .entry)) r (now (buf .exit)) (now (state .exit)) (now (records .exit)) ⌝ }
+{
+    if vfio::maps(a) {
+        return mapped(vfio::map_dma(state, records, buf));
+    }
+    unmap_or_answer(state, records, a, buf)
 }
 
 // A request, by target (0 the container, 1 the device) and number.
 #[no_mangle]
 pub extern "C" fn glint_request(
-    state: State,
+    state: &mut State,
+    records: &mut [Mapping],
     bytes: &[u8],
     shadow: &[u8],
     target: u32,
     number: u32,
     buf: &mut [u8],
-) -> Kept
-    ensures { λ r. ⌜ Tells (request target number) (now (buf .entry)) state (lentMemory bytes shadow) (r .outcome) (now (buf .exit)) (lentMemory bytes shadow) (r .state) ⌝ }
+) -> Outcome
+    ensures { λ r. ⌜ Tells (request target number) (now (buf .entry)) (now (state .entry)) (now (records .entry)) (lentMemory bytes shadow) r (now (buf .exit)) (lentMemory bytes shadow) (now (state .exit)) (now (records .exit)) ⌝ }
 {
-    with_state(vfio::request(state, bytes, shadow, target, number, buf))
+    let ok = emulator::usable(state, records, bytes, shadow);
+    let admission = vfio::admit(ok, target, number, buf);
+    handle(state, records, admission, buf)
+}
+
+fn found_at(ok: bool, d: DeviceAddress, m: Mapping) -> Found
+    requires { ⌜ (ok ≡ true → holds m d ≡ true → inRange memoryLimit m ≡ true) ⌝ }
+    ensures { λ r. ⌜ ((s : StateRecord) (rs : List MappingRecord) → ok ≡ soundMachine (lengthOf rs) (machineOf s rs) → (ok ≡ true → shownBy m d ≡ translate (machineOf s rs .mappings) d) → FindsAt d s rs r) ⌝ }
+{
+    location(emulator::locate(ok, d, m))
+}
+
+fn place_of(s: Search) -> usize
+    ensures { λ r. ⌜ r ≡ s .lo ⌝ }
+{
+    s.lo
 }
 
 // Look-up.
 #[no_mangle]
-pub extern "C" fn glint_look_up(state: State, device: u64) -> Found
-    ensures { λ r. ⌜ ((m : Memory) → Returns foundStruct (lookUp (deviceAddress device)) [] state m r [] m state) ⌝ }
+pub extern "C" fn glint_look_up(state: &State, records: &[Mapping], device: u64) -> Found
+    ensures { λ r. ⌜ FindsAt (deviceAddress device) (now (state .entry)) (now (records .entry)) r ⌝ }
 {
-    location(emulator::look_up(state, DeviceAddress(device)))
+    let ok = emulator::sound(state, records);
+    let held = state.count;
+    let count = emulator::admitted(ok, held);
+    let d = device_at(device);
+    let place = place_of(iommu::find(records, count, d));
+    found_at(ok, d, iommu::get(records, count, place))
+}
+
+// Whether a transfer is accepted.
+fn goes_ahead(ok: bool, c: Checked) -> bool
+    ensures { λ r. ⌜ r ≡ (ok and passes (c .verdict)) ⌝ }
+{
+    if !ok {
+        return false;
+    }
+    let verdict = c.verdict;
+    match verdict {
+        Verdict::Pass => true,
+        Verdict::Fail(code, place) => false,
+    }
+}
+
+fn first_of(c: Checked) -> usize
+    ensures { λ r. ⌜ r ≡ c .first ⌝ }
+{
+    c.first
+}
+
+fn transferred(ok: bool, c: Checked) -> Outcome
+    ensures { λ r. ⌜ r ≡ answerStruct (settle (BadBench unless ok then c .verdict) (value 0)) ⌝ }
+{
+    if !ok {
+        return refusal(answer::BAD_BENCH, 0);
+    }
+    let verdict = c.verdict;
+    numbers(answer::settle(verdict, 0))
+}
+
+// Which of the two a transfer is.
+fn reading() -> bool
+    ensures { λ r. ⌜ r ≡ false ⌝ }
+{
+    false
+}
+
+fn writing() -> bool
+    ensures { λ r. ⌜ r ≡ true ⌝ }
+{
+    true
+}
+
+// The checks of a transfer, behind refusal 1.
+fn check_transfer(
+    ok: bool,
+    count: usize,
+    records: &[Mapping],
+    bytes: &[u8],
+    shadow: &[u8],
+    d: DeviceAddress,
+    n: usize,
+    write: bool,
+) -> Checked
+    requires { ⌜ (ok ≡ true → (Ready (tableOf (now records) count) (lengthOf (now bytes))) × (lengthOf (now bytes) ≤ 8 * lengthOf (now shadow))) ⌝ }
+    ensures { λ r. ⌜ (ok ≡ true → Judged write (now (records .entry)) count (lentMemory bytes shadow) d n r) ⌝ }
+{
+    let held = emulator::admitted(ok, count);
+    let size = emulator::admitted(ok, bytes.len());
+    dma::check_transfer(records, held, size, shadow, d, n, write)
 }
 
 // Card read.
 #[no_mangle]
 pub extern "C" fn glint_device_read(
-    state: State,
+    state: &State,
+    records: &[Mapping],
     bytes: &[u8],
     shadow: &[u8],
     device: u64,
     buf: &mut [u8],
 ) -> Outcome
-    ensures { λ r. ⌜ Tells (deviceRead (deviceAddress device)) (now (buf .entry)) state (lentMemory bytes shadow) r (now (buf .exit)) (lentMemory bytes shadow) state ⌝ }
+    ensures { λ r. ⌜ Tells (deviceRead (deviceAddress device)) (now (buf .entry)) (now (state .entry)) (now (records .entry)) (lentMemory bytes shadow) r (now (buf .exit)) (lentMemory bytes shadow) (now (state .entry)) (now (records .entry)) ⌝ }
 {
-    numbers(emulator::device_read(state, bytes, shadow, DeviceAddress(device), buf))
+    let ok = emulator::usable(state, records, bytes, shadow);
+    let count = state.count;
+    let d = device_at(device);
+    let checked = check_transfer(ok, count, records, bytes, shadow, d, buf.len(), reading());
+    if goes_ahead(ok, checked) {
+        dma::read(records, count, first_of(checked), bytes, d, buf);
+    }
+    transferred(ok, checked)
 }
 
 // Card write.
 #[no_mangle]
 pub extern "C" fn glint_device_write(
-    state: State,
+    state: &State,
+    records: &[Mapping],
     bytes: &mut [u8],
     shadow: &mut [u8],
     device: u64,
     buf: &[u8],
 ) -> Outcome
-    ensures { λ r. ⌜ Tells (deviceWrite (deviceAddress device)) (now (buf .entry)) state (lentMemory bytes shadow) r (now (buf .entry)) (leftMemory bytes shadow) state ⌝ }
+    ensures { λ r. ⌜ Tells (deviceWrite (deviceAddress device)) (now (buf .entry)) (now (state .entry)) (now (records .entry)) (lentMemory bytes shadow) r (now (buf .entry)) (leftMemory bytes shadow) (now (state .entry)) (now (records .entry)) ⌝ }
 {
-    numbers(emulator::device_write(state, bytes, shadow, DeviceAddress(device), buf))
+    let ok = emulator::usable(state, records, bytes, shadow);
+    let count = state.count;
+    let d = device_at(device);
+    let checked = check_transfer(ok, count, records, bytes, shadow, d, buf.len(), writing());
+    if goes_ahead(ok, checked) {
+        dma::write(records, count, first_of(checked), bytes, shadow, d, buf);
+    }
+    transferred(ok, checked)
+}
+
+fn host_write(ok: bool, bytes: &mut [u8], shadow: &mut [u8], address: u64, buf: &[u8]) -> Outcome
+    requires { ⌜ (ok ≡ true → canLend (memoryOf (now bytes) (now shadow)) ≡ true) ⌝ }
+    ensures { λ r. ⌜ ((s : StateRecord) (rs : List MappingRecord) → ok ≡ canUse stateAndMemory (emulatorOf s rs (lentMemory bytes shadow)) → Tells (hostWrite (memoryAddress address)) (now (buf .entry)) s rs (lentMemory bytes shadow) r (now (buf .entry)) (leftMemory bytes shadow) s rs) ⌝ }
+{
+    numbers(emulator::host_write(ok, bytes, shadow, MemoryAddress(address), buf))
 }
 
 // Host store.
 #[no_mangle]
 pub extern "C" fn glint_host_write(
-    state: State,
+    state: &State,
+    records: &[Mapping],
     bytes: &mut [u8],
     shadow: &mut [u8],
     address: u64,
     buf: &[u8],
 ) -> Outcome
-    ensures { λ r. ⌜ Tells (hostWrite (memoryAddress address)) (now (buf .entry)) state (lentMemory bytes shadow) r (now (buf .entry)) (leftMemory bytes shadow) state ⌝ }
+    ensures { λ r. ⌜ Tells (hostWrite (memoryAddress address)) (now (buf .entry)) (now (state .entry)) (now (records .entry)) (lentMemory bytes shadow) r (now (buf .entry)) (leftMemory bytes shadow) (now (state .entry)) (now (records .entry)) ⌝ }
 {
-    numbers(emulator::host_write(state, bytes, shadow, MemoryAddress(address), buf))
+    let ok = emulator::usable(state, records, bytes, shadow);
+    host_write(ok, bytes, shadow, address, buf)
+}
+
+fn host_read(ok: bool, bytes: &[u8], shadow: &[u8], address: u64, buf: &mut [u8]) -> Outcome
+    requires { ⌜ (ok ≡ true → canLend (memoryOf (now bytes) (now shadow)) ≡ true) ⌝ }
+    ensures { λ r. ⌜ ((s : StateRecord) (rs : List MappingRecord) → ok ≡ canUse stateAndMemory (emulatorOf s rs (lentMemory bytes shadow)) → Tells (hostRead (memoryAddress address)) (now (buf .entry)) s rs (lentMemory bytes shadow) r (now (buf .exit)) (lentMemory bytes shadow) s rs) ⌝ }
+{
+    numbers(emulator::host_read(ok, bytes, shadow, MemoryAddress(address), buf))
 }
 
 // Host load.
 #[no_mangle]
 pub extern "C" fn glint_host_read(
-    state: State,
+    state: &State,
+    records: &[Mapping],
     bytes: &[u8],
     shadow: &[u8],
     address: u64,
     buf: &mut [u8],
 ) -> Outcome
-    ensures { λ r. ⌜ Tells (hostRead (memoryAddress address)) (now (buf .entry)) state (lentMemory bytes shadow) r (now (buf .exit)) (lentMemory bytes shadow) state ⌝ }
+    ensures { λ r. ⌜ Tells (hostRead (memoryAddress address)) (now (buf .entry)) (now (state .entry)) (now (records .entry)) (lentMemory bytes shadow) r (now (buf .exit)) (lentMemory bytes shadow) (now (state .entry)) (now (records .entry)) ⌝ }
 {
-    numbers(emulator::host_read(state, bytes, shadow, MemoryAddress(address), buf))
+    let ok = emulator::usable(state, records, bytes, shadow);
+    host_read(ok, bytes, shadow, address, buf)
+}
+
+fn invalidate_range(ok: bool, bytes: &[u8], shadow: &mut [u8], address: u64, length: u64) -> Outcome
+    requires { ⌜ (ok ≡ true → canLend (memoryOf (now bytes) (now shadow)) ≡ true) ⌝ }
+    ensures { λ r. ⌜ ((s : StateRecord) (rs : List MappingRecord) → ok ≡ canUse stateAndMemory (emulatorOf s rs (lentMemory bytes shadow)) → Tells (invalidate (memoryAddress address) length) [] s rs (lentMemory bytes shadow) r [] (remarkedMemory bytes shadow) s rs) ⌝ }
+{
+    numbers(emulator::invalidate(ok, bytes, shadow, MemoryAddress(address), length))
 }
 
 // Forget.
 #[no_mangle]
 pub extern "C" fn glint_invalidate(
-    state: State,
+    state: &State,
+    records: &[Mapping],
     bytes: &[u8],
     shadow: &mut [u8],
     address: u64,
     length: u64,
 ) -> Outcome
-    ensures { λ r. ⌜ Tells (invalidate (memoryAddress address) length) [] state (lentMemory bytes shadow) r [] (remarkedMemory bytes shadow) state ⌝ }
+    ensures { λ r. ⌜ Tells (invalidate (memoryAddress address) length) [] (now (state .entry)) (now (records .entry)) (lentMemory bytes shadow) r [] (remarkedMemory bytes shadow) (now (state .entry)) (now (records .entry)) ⌝ }
 {
-    numbers(emulator::invalidate(state, bytes, shadow, MemoryAddress(address), length))
+    let ok = emulator::usable(state, records, bytes, shadow);
+    invalidate_range(ok, bytes, shadow, address, length)
+}
+
+fn registers_of(c: Changed) -> Registers
+    ensures { λ r. ⌜ r ≡ c .registers ⌝ }
+{
+    c.registers
+}
+
+fn answer_of(c: Changed) -> Outcome
+    ensures { λ r. ⌜ r ≡ answerStruct (told (c .answer)) ⌝ }
+{
+    let answer = c.answer;
+    numbers(answer)
 }
 
 // Sets a register.
 #[no_mangle]
-pub extern "C" fn glint_set_register(state: State, kind: u64, selector: u64, value: &[u8]) -> Kept
-    ensures { λ r. ⌜ TellsAlone (setRegister kind selector) (now (value .entry)) state (r .outcome) (now (value .entry)) (r .state) ⌝ }
+pub extern "C" fn glint_set_register(
+    state: &mut State,
+    records: &[Mapping],
+    kind: u64,
+    selector: u64,
+    value: &[u8],
+) -> Outcome
+    ensures { λ r. ⌜ TellsAlone (setRegister kind selector) (now (value .entry)) (now (state .entry)) (now (records .entry)) r (now (value .entry)) (now (state .exit)) (now (records .entry)) ⌝ }
 {
-    with_state(emulator::set_register(state, kind, selector, value))
+    let ok = emulator::sound(state, records);
+    let words = state.words;
+    let registers = state.registers;
+    let changed = emulator::set_register(ok, words, registers, kind, selector, value);
+    state.registers = registers_of(changed);
+    answer_of(changed)
+}
+
+fn read_register(
+    ok: bool,
+    words: u8,
+    registers: Registers,
+    kind: u64,
+    selector: u64,
+    buf: &mut [u8],
+) -> Outcome
+    requires { ⌜ (ok ≡ true → isCard words ≡ true) ⌝ }
+    ensures { λ r. ⌜ ((s : StateRecord) (rs : List MappingRecord) → ok ≡ soundMachine (lengthOf rs) (machineOf s rs) → words ≡ s .words → registers ≡ s .registers → TellsAlone (readRegister kind selector) (now (buf .entry)) s rs r (now (buf .exit)) s rs) ⌝ }
+{
+    numbers(emulator::read_register(ok, words, registers, kind, selector, buf))
 }
 
 // Reads a register.
 #[no_mangle]
 pub extern "C" fn glint_read_register(
-    state: State,
+    state: &State,
+    records: &[Mapping],
     kind: u64,
     selector: u64,
     buf: &mut [u8],
 ) -> Outcome
-    ensures { λ r. ⌜ TellsAlone (readRegister kind selector) (now (buf .entry)) state r (now (buf .exit)) state ⌝ }
+    ensures { λ r. ⌜ TellsAlone (readRegister kind selector) (now (buf .entry)) (now (state .entry)) (now (records .entry)) r (now (buf .exit)) (now (state .entry)) (now (records .entry)) ⌝ }
 {
-    numbers(emulator::read_register(state, kind, selector, buf))
+    let ok = emulator::sound(state, records);
+    let words = state.words;
+    let registers = state.registers;
+    read_register(ok, words, registers, kind, selector, buf)
 }
 
 // What loading answers, and the registers to keep where it is success.
@@ -267,56 +532,101 @@ struct LoadReply {
     registers: Registers,
 }
 
-fn load_parts(state: State, stream: &[u8]) -> LoadReply
-    ensures { λ r. ⌜ TellsAlone loadParts (now (stream .entry)) state (r .outcome) (now (stream .entry)) (keptBy r state) ⌝ }
+fn load_parts(ok: bool, words: u8, running: u8, stream: &[u8]) -> LoadReply
+    requires { ⌜ (ok ≡ true → isCard words ≡ true) ⌝ }
+    ensures { λ r. ⌜ ((s : StateRecord) (rs : List MappingRecord) → ok ≡ soundMachine (lengthOf rs) (machineOf s rs) → words ≡ s .words → running ≡ s .running → TellsAlone loadParts (now (stream .entry)) s rs (r .outcome) (now (stream .entry)) (keptBy r s) rs) ⌝ }
 {
-    let loaded = emulator::load_registers(state, stream);
+    let loaded = emulator::load_registers(ok, words, running, stream);
     let verdict = loaded.verdict;
     let registers = loaded.registers;
     let outcome = numbers(answer::settle(verdict, 0));
     LoadReply { outcome, registers }
 }
 
-// Loads a stream of parts into a state where it stands: to hand it over and back would take longer than to load.
-#[no_mangle]
-pub extern "C" fn glint_load_parts_into(state: &mut State, stream: &[u8]) -> Outcome
-    ensures { λ r. ⌜ TellsAlone loadParts (now (stream .entry)) (now (state .entry)) r (now (stream .entry)) (now (state .exit)) ⌝ }
+fn is_loaded(l: LoadReply) -> bool
+    ensures { λ r. ⌜ r ≡ not (l .outcome .refused) ⌝ }
 {
-    let loaded = load_parts(*state, stream);
-    if !loaded.outcome.refused {
-        state.registers = loaded.registers;
+    !l.outcome.refused
+}
+
+fn loaded_of(l: LoadReply) -> Registers
+    ensures { λ r. ⌜ r ≡ l .registers ⌝ }
+{
+    l.registers
+}
+
+fn outcome_of(l: LoadReply) -> Outcome
+    ensures { λ r. ⌜ r ≡ l .outcome ⌝ }
+{
+    l.outcome
+}
+
+// Loads a stream of parts.
+#[no_mangle]
+pub extern "C" fn glint_load_parts(state: &mut State, records: &[Mapping], stream: &[u8]) -> Outcome
+    ensures { λ r. ⌜ TellsAlone loadParts (now (stream .entry)) (now (state .entry)) (now (records .entry)) r (now (stream .entry)) (now (state .exit)) (now (records .entry)) ⌝ }
+{
+    let ok = emulator::sound(state, records);
+    let words = state.words;
+    let running = state.running;
+    let loaded = load_parts(ok, words, running, stream);
+    if is_loaded(loaded) {
+        state.registers = loaded_of(loaded);
     }
-    loaded.outcome
+    outcome_of(loaded)
 }
 
-fn save_parts(state: State, buf: &mut [u8]) -> Outcome
-    ensures { λ r. ⌜ TellsAlone saveParts (now (buf .entry)) state r (now (buf .exit)) state ⌝ }
+fn save_parts(ok: bool, words: u8, running: u8, registers: Registers, buf: &mut [u8]) -> Outcome
+    requires { ⌜ (ok ≡ true → isCard words ≡ true) ⌝ }
+    ensures { λ r. ⌜ ((s : StateRecord) (rs : List MappingRecord) → ok ≡ soundMachine (lengthOf rs) (machineOf s rs) → words ≡ s .words → running ≡ s .running → registers ≡ s .registers → TellsAlone saveParts (now (buf .entry)) s rs r (now (buf .exit)) s rs) ⌝ }
 {
-    numbers(emulator::save_parts(state, buf))
+    numbers(emulator::save_parts(ok, words, running, registers, buf))
 }
 
-// Saves the registers of a state, where it stands, as a stream of parts.
+// Saves the registers as a stream of parts.
 #[no_mangle]
-pub extern "C" fn glint_save_parts_from(state: &State, buf: &mut [u8]) -> Outcome
-    ensures { λ r. ⌜ TellsAlone saveParts (now (buf .entry)) (now (state .entry)) r (now (buf .exit)) (now (state .entry)) ⌝ }
+pub extern "C" fn glint_save_parts(state: &State, records: &[Mapping], buf: &mut [u8]) -> Outcome
+    ensures { λ r. ⌜ TellsAlone saveParts (now (buf .entry)) (now (state .entry)) (now (records .entry)) r (now (buf .exit)) (now (state .entry)) (now (records .entry)) ⌝ }
 {
-    save_parts(*state, buf)
+    let ok = emulator::sound(state, records);
+    let words = state.words;
+    let running = state.running;
+    let registers = state.registers;
+    save_parts(ok, words, running, registers, buf)
+}
+
+fn stopped(ok: bool, was: u8) -> u8
+    ensures { λ r. ⌜ r ≡ pick ok 0 was ⌝ }
+{
+    emulator::run_byte(ok, was, false)
 }
 
 // Stops the device.
 #[no_mangle]
-pub extern "C" fn glint_stop(state: State) -> Kept
-    ensures { λ r. ⌜ TellsAlone stop [] state (r .outcome) [] (r .state) ⌝ }
+pub extern "C" fn glint_stop(state: &mut State, records: &[Mapping]) -> Outcome
+    ensures { λ r. ⌜ TellsAlone stop [] (now (state .entry)) (now (records .entry)) r [] (now (state .exit)) (now (records .entry)) ⌝ }
 {
-    with_state(emulator::stop(state))
+    let ok = emulator::sound(state, records);
+    let running = state.running;
+    state.running = stopped(ok, running);
+    done_if(ok)
+}
+
+fn started(ok: bool, was: u8) -> u8
+    ensures { λ r. ⌜ r ≡ pick ok 1 was ⌝ }
+{
+    emulator::run_byte(ok, was, true)
 }
 
 // Starts the device.
 #[no_mangle]
-pub extern "C" fn glint_start(state: State) -> Kept
-    ensures { λ r. ⌜ TellsAlone start [] state (r .outcome) [] (r .state) ⌝ }
+pub extern "C" fn glint_start(state: &mut State, records: &[Mapping]) -> Outcome
+    ensures { λ r. ⌜ TellsAlone start [] (now (state .entry)) (now (records .entry)) r [] (now (state .exit)) (now (records .entry)) ⌝ }
 {
-    with_state(emulator::start(state))
+    let ok = emulator::sound(state, records);
+    let running = state.running;
+    state.running = started(ok, running);
+    done_if(ok)
 }
 
 // A step that found no part: refused, or at the end. The walk goes on at `next`.

@@ -1,36 +1,42 @@
 -- What the three walks keep and how each of their steps keeps it: judging a transfer, reading and writing.
-use Prim.Native.Nat.{ℕ, _+_, _-_, _≤_, _<_}
+use Prim.Native.Nat.{ℕ, suc, _+_, _-_, _*_, _≤_, _<_}
 use native.Mathlib.Nat.{add-zero, sub-zero}
 use native.Mathlib.Omega.{arith}
 use mathlib.Core.Path.{_≡_, refl, sym, _∙_, ap}
-use mathlib.Core.Bool.{Bool, true, false, false≢true}
+use mathlib.Core.Bool.{Bool, true, false, false≢true, true≢false}
 use mathlib.Core.List.{List}
 use lib.Dec.{ltb}
 use lib.ListN.{length, drop, drop-of-length-le}
 use lib.Seq.{sets, length-sets}
-use borrow.Author.Tests.{ltb-true, ltb-false}
-use Rattle.answer.specs.Codes.{Unmapped}
-use Rattle.answer.specs.Checks.{firstFault}
+use borrow.Author.Tests.{ltb-true, ltb-false, leb-true}
+use Rattle.answer.specs.Tests.{_and_, pick}
+use Rattle.answer.specs.Codes.{Range, Unmapped}
+use Rattle.answer.specs.Checks.{_then_, _when_, _unless_, _at_, firstFault, passes}
+use Rattle.answer.specs.Limits.{transferLimit, lengthCheck}
 use Rattle.answer.specs.declared.Verdict.{Verdict}
 use Rattle.answer.specs.declared.Verdict.the-variants.{Pass, Fail}
-use Rattle.answer.proofs.Checks.{firstFault-all, firstFault-pass, firstFault-at, firstFault-cong, firstFault-fault, passes-run, firstFault-run}
+use Rattle.answer.proofs.Tests.{and-true, and-second}
+use Rattle.answer.proofs.Checks.{never, then-pass, then-fail, then-assoc, when-pass, unless-pass, firstFault-all, firstFault-pass, firstFault-at, firstFault-cong, passes-run, firstFault-run}
 use Rattle.wire.specs.Field.{slice}
 use Rattle.wire.proofs.Laws.{sets-all}
-use Rattle.address.specs.Address.{memoryAddress, deviceOffset}
+use Rattle.address.specs.Address.{deviceLimit, memoryAddress, deviceOffset, inDeviceRange}
 use Rattle.address.specs.declared.DeviceAddress.{DeviceAddress}
-use Rattle.iommu.specs.Table.{capacity, translate, mapped, inUse}
-use Rattle.iommu.specs.declared.Table.{Table}
+use Rattle.iommu.specs.Table.{Table, translate, mapped, inRange, inUse, firstPast}
+use Rattle.iommu.specs.declared.Mapping.{Mapping}
 use Rattle.iommu.specs.declared.Translation.the-variants.{Nowhere}
 use Rattle.memory.specs.Memory.{Memory, memoryOf, edited, stores}
 use Rattle.memory.specs.Shadow.{Shadow, markBytes}
 use Rattle.memory.proofs.Edits.{edited-bytes-length, edited-shadow-length}
-use Rattle.dma.specs.Transfers.{gather, scatter}
-use Rattle.dma.specs.Walk.{Ready, Accepted, runIn, faultOf}
+use Rattle.dma.specs.Transfers.{transferChecks, gather, scatter}
+use Rattle.dma.specs.Walk.{Ready, Accepted, RunBounds, runIn, faultOf, progress, beginning, goingOn, judgedRun, judgedBy, judged, finished, walkAt, walkedOn, readRun, writtenRun}
+use Rattle.dma.specs.declared.Checked.{Checked}
+use Rattle.dma.specs.declared.Progress.{Progress}
 use Rattle.dma.specs.declared.Run.{Run}
 use Rattle.dma.specs.declared.Run.the-variants.{Gap, Passed, Shows}
-use Rattle.dma.proofs.Walk.{entry, Walk, walk-start, end-nowhere, gap-nowhere, walk-past, run-room, run-translate, run-shown, walk-run}
+use Rattle.dma.specs.declared.Walk.{Walk}
+use Rattle.dma.proofs.Ahead.{entry, Come, walk-start, end-nowhere, gap-nowhere, walk-past, run-room, run-translate, run-shown, walk-run, walk-range, walk-bounds}
 use Rattle.dma.proofs.Gather.{gather-length}
-use Rattle.dma.proofs.Transfers.{fault-nowhere, runFault, gather-more, scatter-more}
+use Rattle.dma.proofs.Transfers.{fault-nowhere, runFault, checks-offsets, gather-more, scatter-more}
 
 -- ---- judging
 
@@ -40,12 +46,12 @@ faultAt write shadow t d j = faultOf write shadow (translate (inUse t) (deviceOf
 
 -- the offsets passed have no fault
 pub record Judged (write : Bool) (shadow : Shadow) (size : ℕ) (t : Table) (d : DeviceAddress) (n k i : ℕ) : Type 0 where
-  pub walk : Walk t size d n k i
+  pub walk : Come t size d n k i
   pub clean : (j : ℕ) → j < k → faultAt write shadow t d j ≡ Pass
 
-pub judged-start : (write : Bool) (shadow : Shadow) {size : ℕ} {t : Table} (d : DeviceAddress) (n : ℕ) → Ready t size → length (t .entries) ≡ capacity
-    → Judged write shadow size t d n 0 0
-judged-start write shadow d n ready full = record { walk = walk-start d n ready full; clean = λ j h. absurd (omega arith) }
+pub judged-start : (write : Bool) (shadow : Shadow) {size : ℕ} {t : Table} (d : DeviceAddress) (n : ℕ) → Ready t size
+    → Judged write shadow size t d n 0 (firstPast d (inUse t))
+judged-start write shadow d n ready = record { walk = walk-start d n ready; clean = λ j h. absurd (omega arith) }
 
 module _ {write : Bool} {shadow : Shadow} {size : ℕ} {t : Table} {d : DeviceAddress} {n k i : ℕ} (s : Judged write shadow size t d n k i) where
   pub judged-pass : n ≤ k → firstFault (faultAt write shadow t d) n ≡ Pass
@@ -78,19 +84,132 @@ module _ {write : Bool} {shadow : Shadow} {size : ℕ} {t : Table} {d : DeviceAd
       judged-fault code place h =
           firstFault-run (faultAt write shadow t d) n k len code place (run-room (s .walk) more is e .1) (s .clean) (on-run ∙ h)
 
-      pub judged-place : (code place : ℕ) → v ≡ Fail code place → place < len
-      judged-place code place h = firstFault-fault _ len code place (on-run ∙ h) .below
-
       pub judged-run : v ≡ Pass → Judged write shadow size t d n (k + len) (i + 1)
       judged-run h = record {
         walk = walk-run (s .walk) more is e;
         clean = passes-run (faultAt write shadow t d) k len (s .clean) (firstFault-all (λ j. faultAt write shadow t d (k + j)) len (on-run ∙ h));
       }
 
+-- ---- a transfer being judged
+
+length-short : (n : ℕ) → lengthCheck n ≡ Pass → n ≤ transferLimit
+unfolding lengthCheck
+length-short n e = ltb-false _ _ (when-pass _ _ e)
+
+range-in : (d : DeviceAddress) (n : ℕ) → (Range unless inDeviceRange d n) ≡ Pass → d .0 + n ≤ deviceLimit
+unfolding inDeviceRange
+range-in d n e = leb-true _ _ (unless-pass _ _ e)
+
+passes-pass : (v : Verdict) → passes v ≡ true → v ≡ Pass
+unfolding passes
+passes-pass Pass e = refl
+passes-pass (Fail code place) e = absurd (false≢true e)
+
+going-still : (p : Progress) (n count : ℕ) → p .verdict ≡ Pass → ltb (p .done) n ≡ true → ltb (p .place) count ≡ true → goingOn p n count ≡ true
+unfolding goingOn passes _and_
+going-still p n count e f g = rw (e, f, g)
+
+-- while it passes, the offsets below `done` have no fault, and a fault is the transfer's
+pub record Judging (write : Bool) (shadow : Shadow) (size : ℕ) (t : Table) (d : DeviceAddress) (n : ℕ) (p : Progress) : Type 0 where
+  pub passed : p .verdict ≡ Pass → (Judged write shadow size t d n (p .done) (p .place)) × (n ≤ transferLimit) × (d .0 + n ≤ deviceLimit)
+  pub failed : (code place : ℕ) → p .verdict ≡ Fail code place → transferChecks (faultOf write shadow) (inUse t) d n ≡ Fail code place
+
+-- how often it may go on at most
+unfoldable pub turns : ℕ → Progress → ℕ
+turns count p = pick (passes (p .verdict)) (suc (count - p .place)) 0
+
+pub judging-start : (write : Bool) (shadow : Shadow) (size : ℕ) (t : Table) (d : DeviceAddress) (n first : ℕ) (p : Progress) → Ready t size → first ≡ firstPast d (inUse t) → p ≡ beginning d n first → Judging write shadow size t d n p
+unfolding beginning transferChecks
+judging-start write shadow size t d n first p ready f is =
+    rw (is, f)
+    (record {
+      passed = λ e. let q = then-pass _ _ e in (judged-start write shadow d n ready, length-short n (q .0), range-in d n (q .1));
+      failed = λ code place e. sym (then-assoc _ _ _) ∙ then-fail _ _ code place e;
+    })
+
+module _ {write : Bool} {shadow : Shadow} {size : ℕ} {t : Table} {d : DeviceAddress} {n : ℕ} {p : Progress} (j : Judging write shadow size t d n p) where
+  module _ (go : goingOn p n (t .count) ≡ true) where
+    going-facts : (p .verdict ≡ Pass) × (p .done < n) × (p .place < t .count)
+    unfolding goingOn
+    going-facts =
+        let a = and-true _ _ go in
+        let b = and-true _ _ (a .0) in
+        (passes-pass _ (b .0), ltb-true _ _ (b .1), ltb-true _ _ (a .1))
+
+    clean-so-far : (Judged write shadow size t d n (p .done) (p .place)) × (n ≤ transferLimit) × (d .0 + n ≤ deviceLimit)
+    clean-so-far = j .passed (going-facts .0)
+
+    pub judging-bounds : (room : ℕ) → size ≤ room → (m : Mapping) → m ≡ entry t (p .place) → RunBounds m d n (p .done) (p .place) room
+    judging-bounds room h m e =
+        let k = clean-so-far in
+        rw e (walk-bounds (k .0 .walk) (going-facts .2) (going-facts .1) (k .2) room h)
+
+    -- each way that a record is judged
+    abbrev Next : Progress → Type 0
+    Next r = (Judging write shadow size t d n r) × (turns (t .count) r < turns (t .count) p)
+
+    turns-now : turns (t .count) p ≡ suc (t .count - p .place)
+    unfolding turns
+    turns-now = rw (going-facts .0) (unfold passes pick in refl)
+
+    turns-over : (code place i done : ℕ) → turns (t .count) (progress (Fail code place) i done) < turns (t .count) p
+    unfolding turns passes pick
+    turns-over code place i done = omega (arith, turns-now)
+
+    turns-fewer : (done : ℕ) → turns (t .count) (progress Pass (p .place + 1) done) < turns (t .count) p
+    unfolding turns passes pick
+    turns-fewer done = let f = going-facts in omega (arith, turns-now, f .2)
+
+    over : (code k : ℕ) → firstFault (faultAt write shadow t d) n ≡ Fail code k → Next (progress (Fail code k) (p .place) (p .done))
+    over code k e =
+        let c = clean-so-far in (
+          record { passed = λ h. never code k h; failed = λ code′ place h. checks-offsets (faultOf write shadow) (inUse t) d n (c .1) (c .2) ∙ e ∙ h },
+          turns-over code k (p .place) (p .done),
+        )
+
+    onward : (done : ℕ) → Judged write shadow size t d n done (p .place + 1) → Next (progress Pass (p .place + 1) done)
+    onward done q =
+        let k = clean-so-far in
+        (record { passed = λ _. (q, k .1, k .2); failed = λ code place h. never code place (sym h) }, turns-fewer done)
+
+    by-verdict : {a len : ℕ} → Shows a len ≡ runIn (entry t (p .place)) (deviceOffset d (p .done)) (n - p .done) → (v : Verdict) → v ≡ firstFault (runFault write shadow a (entry t (p .place) .rights)) len → Next (judgedRun p len v)
+    unfolding judgedRun
+    by-verdict {a} {len} is Pass e = onward (p .done + len) (judged-run (clean-so-far .0) (going-facts .2) is refl e refl)
+    by-verdict {a} {len} is (Fail code place) e = over code (p .done + place) (judged-fault (clean-so-far .0) (going-facts .2) is refl e code place refl)
+
+    by-run : (r : Run) → r ≡ runIn (entry t (p .place)) (deviceOffset d (p .done)) (n - p .done) → Next (judgedBy (faultOf write shadow) (entry t (p .place) .rights) p r)
+    unfolding judgedBy
+    by-run Gap is = over Unmapped (p .done) (judged-gap (clean-so-far .0) (going-facts .2) is refl (going-facts .1))
+    by-run Passed is = onward (p .done) (judged-past (clean-so-far .0) (going-facts .2) is refl)
+    by-run (Shows a len) is = by-verdict is _ refl
+
+    pub judging-on : (m : Mapping) → m ≡ entry t (p .place) → (r : Progress) → r ≡ judged (faultOf write shadow) m d n p → Next r
+    unfolding judged
+    judging-on m e r is = rw (is, e) (by-run _ refl)
+
+    pub judging-range : (m : Mapping) → m ≡ entry t (p .place) → inRange size m ≡ true
+    judging-range m e = rw e (walk-range (clean-so-far .0 .walk) (going-facts .2))
+
+  pub judging-end : (first : ℕ) → goingOn p n (t .count) ≡ false → (r : Checked) → r ≡ finished p first n
+      → (r .verdict ≡ transferChecks (faultOf write shadow) (inUse t) d n) × (r .first ≡ first)
+  unfolding finished
+  judging-end first out r is = rw is (at-end (p .verdict) refl (ltb (p .done) n) refl (ltb (p .place) (t .count)) refl, refl)
+    where
+      at-end : (v : Verdict) → p .verdict ≡ v → (b : Bool) → ltb (p .done) n ≡ b → (c : Bool) → ltb (p .place) (t .count) ≡ c
+          → (v then Unmapped when b at p .done) ≡ transferChecks (faultOf write shadow) (inUse t) d n
+      at-end (Fail code place) e b f c g = unfold _then_ in sym (j .failed code place e)
+      at-end Pass e true f true g = absurd (true≢false (sym (going-still p n (t .count) e f g) ∙ out))
+      at-end Pass e true f false g =
+          let k = j .passed e in
+          unfold _then_ _when_ _at_ in sym (checks-offsets (faultOf write shadow) (inUse t) d n (k .1) (k .2) ∙ judged-end (k .0) (ltb-false (p .place) (t .count) g) (ltb-true (p .done) n f))
+      at-end Pass e false f c g =
+          let k = j .passed e in
+          unfold _then_ _when_ _at_ in sym (checks-offsets (faultOf write shadow) (inUse t) d n (k .1) (k .2) ∙ judged-pass (k .0) (ltb-false (p .done) n f))
+
 -- ---- moving bytes
 
 -- a walk of an accepted transfer meets no gap, and is over where the table is
-module _ {t : Table} {size : ℕ} {d : DeviceAddress} {n k i : ℕ} (accepted : Accepted (inUse t) d n) (w : Walk t size d n k i) where
+module _ {t : Table} {size : ℕ} {d : DeviceAddress} {n k i : ℕ} (accepted : Accepted (inUse t) d n) (w : Come t size d n k i) where
   nowhere : {X : Type 0} → k < n → translate (inUse t) (deviceOffset d k) ≡ Nowhere → X
   unfolding mapped
   nowhere b e = absurd (false≢true (rw e at (accepted .held k b)))
@@ -105,20 +224,38 @@ module _ {t : Table} {size : ℕ} {d : DeviceAddress} {n k i : ℕ} (accepted : 
       go true e = nowhere (ltb-true k n e) (end-nowhere w h (ltb-true k n e))
       go false e = ltb-false k n e
 
+-- whether it goes on
+walking-facts : (w : Walk) (n count : ℕ) → (ltb (w .done) n and ltb (w .place) count) ≡ true → (w .done < n) × (w .place < count)
+walking-facts w n count go = let a = and-true _ _ go in (ltb-true _ _ (a .0), ltb-true _ _ (a .1))
+
+walking-out : {X : Type 0} (w : Walk) (n count : ℕ) → (ltb (w .done) n and ltb (w .place) count) ≡ false → (n ≤ w .done → X) → (count ≤ w .place → X) → X
+walking-out {X} w n count out f g = go (ltb (w .done) n) refl
+  where
+    go : (b : Bool) → ltb (w .done) n ≡ b → X
+    go true e = g (ltb-false (w .place) count (and-second e refl ∙ out))
+    go false e = f (ltb-false (w .done) n e)
+
+-- each turn goes on by one record
+walked-less : (w : Walk) (r : Run) (v : Walk) → v ≡ walkedOn w r → (count : ℕ) → w .place < count → count - v .place < count - w .place
+unfolding walkedOn
+walked-less w Gap v is count h = rw is (omega arith)
+walked-less w Passed v is count h = rw is (omega arith)
+walked-less w (Shows a len) v is count h = rw is (omega arith)
+
 -- ---- reading
 
 -- what is still to be read makes of the buffer what the whole makes of the one given
 pub record Reading (t : Table) (bytes : List ℕ) (d : DeviceAddress) (old buf : List ℕ) (k i : ℕ) : Type 0 where
   pub accepted : Accepted (inUse t) d (length old)
-  pub walk : Walk t (length bytes) d (length old) k i
+  pub walk : Come t (length bytes) d (length old) k i
   pub long : length buf ≡ length old
   pub rest : (shadow : List ℕ) → sets buf k (gather (inUse t) (memoryOf bytes shadow) (deviceOffset d k) (length old - k)) ≡ gather (inUse t) (memoryOf bytes shadow) d (length old)
 
 pub reading-start : {t : Table} (bytes : List ℕ) (d : DeviceAddress) (buf : List ℕ) → Ready t (length bytes) → Accepted (inUse t) d (length buf)
-    → length (t .entries) ≡ capacity → Reading t bytes d buf buf 0 0
-reading-start {t} bytes d buf ready accepted full = record {
+    → Reading t bytes d buf buf 0 (firstPast d (inUse t))
+reading-start {t} bytes d buf ready accepted = record {
   accepted = accepted;
-  walk = walk-start d (length buf) ready full;
+  walk = walk-start d (length buf) ready;
   long = refl;
   rest = λ shadow. rw (add-zero (d .0), sub-zero (length buf)) (sets-all buf _ (gather-length (inUse t) (memoryOf bytes shadow) d (length buf)));
 }
@@ -150,21 +287,49 @@ module _ {t : Table} {bytes : List ℕ} {d : DeviceAddress} {old buf : List ℕ}
           ∙ s .rest shadow);
     }
 
+pub reading-from : {t : Table} (bytes : List ℕ) (d : DeviceAddress) (buf : List ℕ) → Ready t (length bytes) → Accepted (inUse t) d (length buf) → (first : ℕ) → first ≡ firstPast d (inUse t) → (w : Walk) → w ≡ walkAt first 0
+    → Reading t bytes d buf buf (w .done) (w .place)
+reading-from bytes d buf ready accepted first e w is = rw (is, e) (reading-start bytes d buf ready accepted)
+
+-- a turn of the walk
+module _ {t : Table} {bytes : List ℕ} {d : DeviceAddress} {old buf : List ℕ} {w : Walk} (s : Reading t bytes d old buf (w .done) (w .place)) where
+  module _ (go : (ltb (w .done) (length old) and ltb (w .place) (t .count)) ≡ true) (m : Mapping) (e : m ≡ entry t (w .place)) where
+    pub reading-bounds : RunBounds m d (length buf) (w .done) (w .place) (length bytes)
+    reading-bounds =
+        let f = walking-facts w (length old) (t .count) go in
+        rw (e, s .long) (walk-bounds (s .walk) (f .1) (f .0) (s .accepted .range) (length bytes) (omega arith))
+
+    by-run-read : (r : Run) → r ≡ runIn (entry t (w .place)) (deviceOffset d (w .done)) (length old - w .done) → Reading t bytes d old (readRun bytes (w .done) r buf) (walkedOn w r .done) (walkedOn w r .place)
+    unfolding readRun walkedOn
+    by-run-read Gap is = let f = walking-facts w (length old) (t .count) go in no-gap (s .accepted) (s .walk) (f .1) is refl (f .0)
+    by-run-read Passed is = reading-past s (walking-facts w (length old) (t .count) go .1) is refl
+    by-run-read (Shows a len) is = reading-run s (walking-facts w (length old) (t .count) go .1) is refl _ refl
+
+    pub reading-on : (v : Walk) (new : List ℕ) → (v ≡ walkedOn w (runIn m (deviceOffset d (w .done)) (length buf - w .done))) × (new ≡ readRun bytes (w .done) (runIn m (deviceOffset d (w .done)) (length buf - w .done)) buf)
+        → Reading t bytes d old new (v .done) (v .place)
+    reading-on v new is = rw (is .0, is .1, e, s .long) (by-run-read _ refl)
+
+    pub reading-less : (v : Walk) → v ≡ walkedOn w (runIn m (deviceOffset d (w .done)) (length buf - w .done)) → t .count - v .place < t .count - w .place
+    reading-less v is = walked-less w _ v is (t .count) (walking-facts w (length old) (t .count) go .1)
+
+  pub reading-over : (ltb (w .done) (length old) and ltb (w .place) (t .count)) ≡ false → (shadow : List ℕ) → buf ≡ gather (inUse t) (memoryOf bytes shadow) d (length old)
+  reading-over out = walking-out w (length old) (t .count) out (reading-done s) (reading-end s)
+
 -- ---- writing
 
 -- what is still to be stored makes of memory what the whole makes of the one given
 pub record Writing (t : Table) (d : DeviceAddress) (buf : List ℕ) (old new : Memory) (k i : ℕ) : Type 0 where
   pub accepted : Accepted (inUse t) d (length buf)
-  pub walk : Walk t (length (old .bytes)) d (length buf) k i
+  pub walk : Come t (length (old .bytes)) d (length buf) k i
   pub bytes-long : length (new .bytes) ≡ length (old .bytes)
   pub shadow-long : markBytes (new .shadow) ≡ markBytes (old .shadow)
   pub rest : edited (scatter (inUse t) (deviceOffset d k) (drop k buf)) new ≡ edited (scatter (inUse t) d buf) old
 
 pub writing-start : {t : Table} (d : DeviceAddress) (buf : List ℕ) (m : Memory) → Ready t (length (m .bytes)) → Accepted (inUse t) d (length buf)
-    → length (t .entries) ≡ capacity → Writing t d buf m m 0 0
-writing-start d buf m ready accepted full = record {
+    → Writing t d buf m m 0 (firstPast d (inUse t))
+writing-start d buf m ready accepted = record {
   accepted = accepted;
-  walk = walk-start d (length buf) ready full;
+  walk = walk-start d (length buf) ready;
   bytes-long = refl;
   shadow-long = refl;
   rest = rw (add-zero (d .0));
@@ -194,3 +359,34 @@ module _ {t : Table} {d : DeviceAddress} {buf : List ℕ} {old new : Memory} {k 
           (scatter-more (inUse t) d k a len (run-shown (s .walk) more is e) new buf (run-room (s .walk) more is e .1)
           ∙ s .rest);
     }
+
+pub writing-from : {t : Table} (d : DeviceAddress) (buf : List ℕ) (m : Memory) → Ready t (length (m .bytes)) → Accepted (inUse t) d (length buf) → (first : ℕ) → first ≡ firstPast d (inUse t) → (w : Walk) → w ≡ walkAt first 0
+    → Writing t d buf m m (w .done) (w .place)
+writing-from d buf m ready accepted first e w is = rw (is, e) (writing-start d buf m ready accepted)
+
+-- a turn of the walk
+module _ {t : Table} {d : DeviceAddress} {buf bytes₀ shadow₀ bytes shadow : List ℕ} {w : Walk} (s : Writing t d buf (memoryOf bytes₀ shadow₀) (memoryOf bytes shadow) (w .done) (w .place)) where
+  module _ (go : (ltb (w .done) (length buf) and ltb (w .place) (t .count)) ≡ true) (m : Mapping) (e : m ≡ entry t (w .place)) where
+    pub writing-bounds : length bytes₀ ≤ 8 * length shadow₀ → (RunBounds m d (length buf) (w .done) (w .place) (length bytes)) × (length bytes ≤ 8 * length shadow)
+    writing-bounds h =
+        let f = walking-facts w (length buf) (t .count) go in
+        let x : length bytes ≡ length bytes₀ = s .bytes-long in
+        let y : length shadow ≡ length shadow₀ = s .shadow-long in
+        (rw e (walk-bounds (s .walk) (f .1) (f .0) (s .accepted .range) (length bytes) (omega arith)), omega arith)
+
+    by-run-written : (r : Run) → r ≡ runIn (entry t (w .place)) (deviceOffset d (w .done)) (length buf - w .done) → (new : Memory) → new ≡ edited (writtenRun buf (w .done) r) (memoryOf bytes shadow)
+        → Writing t d buf (memoryOf bytes₀ shadow₀) new (walkedOn w r .done) (walkedOn w r .place)
+    unfolding writtenRun walkedOn edited
+    by-run-written Gap is new n = let f = walking-facts w (length buf) (t .count) go in no-gap (s .accepted) (s .walk) (f .1) is refl (f .0)
+    by-run-written Passed is new n = rw n (writing-past s (walking-facts w (length buf) (t .count) go .1) is refl)
+    by-run-written (Shows a len) is new n = writing-run s (walking-facts w (length buf) (t .count) go .1) is refl new n
+
+    pub writing-on : (v : Walk) (bytes′ shadow′ : List ℕ) → (v ≡ walkedOn w (runIn m (deviceOffset d (w .done)) (length buf - w .done))) × (memoryOf bytes′ shadow′ ≡ edited (writtenRun buf (w .done) (runIn m (deviceOffset d (w .done)) (length buf - w .done))) (memoryOf bytes shadow))
+        → Writing t d buf (memoryOf bytes₀ shadow₀) (memoryOf bytes′ shadow′) (v .done) (v .place)
+    writing-on v bytes′ shadow′ is = rw (is .0, e) (by-run-written _ refl (memoryOf bytes′ shadow′) (rw e at (is .1)))
+
+    pub writing-less : (v : Walk) → v ≡ walkedOn w (runIn m (deviceOffset d (w .done)) (length buf - w .done)) → t .count - v .place < t .count - w .place
+    writing-less v is = walked-less w _ v is (t .count) (walking-facts w (length buf) (t .count) go .1)
+
+  pub writing-over : (ltb (w .done) (length buf) and ltb (w .place) (t .count)) ≡ false → memoryOf bytes shadow ≡ edited (scatter (inUse t) d buf) (memoryOf bytes₀ shadow₀)
+  writing-over out = walking-out w (length buf) (t .count) out (writing-done s) (writing-end s)

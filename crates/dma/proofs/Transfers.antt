@@ -1,23 +1,23 @@
 -- Laws of device transfers: what an accepted one has passed, and gather and scatter over a run and over runs one behind the other.
 use Prim.Native.Nat.{ℕ, zero, suc, _+_, _-_, _/_, _%_, _≤_, _<_}
-use native.Mathlib.Nat.{add-zero, suc-add, zero-add}
+use native.Mathlib.Nat.{add-zero}
 use native.Mathlib.Numerals.{add-one}
 use native.Mathlib.Omega.{arith}
 use mathlib.Core.Path.{_≡_, refl, sym, _∙_, ap}
 use mathlib.Core.Bool.{Bool, true, false}
 use mathlib.Core.List.{List, [], _∷_, _++_}
 use lib.ListN.{length, getD, drop, take-append-drop}
-use lib.Seq.{sets, take-length, drop-cons, drop-drop}
-use borrow.Author.Tests.{lt-ltb, le-ltb, le-leb, lt-leb, leb-true, eq-eqb, ne-eqb}
+use lib.Seq.{sets, drop-cons, drop-drop}
+use borrow.Author.Tests.{le-ltb, le-leb, leb-true, eq-eqb, ne-eqb}
 use Rattle.answer.specs.Tests.{pick}
-use Rattle.answer.specs.Codes.{Range, TooLong, Unmapped, NoRight}
+use Rattle.answer.specs.Codes.{Unmapped, NoRight}
 use Rattle.answer.specs.Checks.{firstFault}
 use Rattle.answer.specs.Limits.{transferLimit, lengthCheck}
 use Rattle.answer.specs.declared.Verdict.{Verdict}
 use Rattle.answer.specs.declared.Verdict.the-variants.{Pass, Fail}
-use Rattle.answer.proofs.Checks.{never, then-pass, then-next, then-fail, when-true, when-false, unless-pass, unless-true, unless-false, firstFault-all, firstFault-pass, firstFault-at, firstFault-cong}
+use Rattle.answer.proofs.Checks.{never, then-pass, then-next, then-fail, when-false, unless-pass, unless-true, unless-false, firstFault-all, firstFault-pass, firstFault-at, firstFault-cong}
 use Rattle.wire.specs.Field.{slice}
-use Rattle.wire.proofs.Laws.{sets-all, sets-append, length-part}
+use Rattle.wire.proofs.Laws.{sets-append, length-part}
 use Rattle.address.specs.Address.{deviceLimit, memoryAddress, memoryOffset, deviceOffset, inDeviceRange}
 use Rattle.address.specs.declared.DeviceAddress.{DeviceAddress}
 use Rattle.iommu.specs.Table.{translate, mapped, readable, writable}
@@ -29,8 +29,8 @@ use Rattle.memory.specs.Shadow.{Shadow, packed}
 use Rattle.memory.specs.Transfers.{unwrittenIn}
 use Rattle.memory.proofs.Edits.{edited-append}
 use Rattle.dma.specs.Transfers.{readFault, writeFault, transferChecks, deviceReadChecks, deviceWriteChecks, location, gather, scatter}
-use Rattle.dma.specs.Walk.{Accepted, Contiguous, FirstRun, faultOf}
-use Rattle.dma.proofs.Gather.{gather-length, gather-append}
+use Rattle.dma.specs.Walk.{Accepted, Contiguous, faultOf}
+use Rattle.dma.proofs.Gather.{gather-append}
 
 -- ---- the fault of one byte
 
@@ -88,24 +88,11 @@ pub checks-write : (ms : List Mapping) (shadow : Shadow) (d : DeviceAddress) (n 
 unfolding faultOf pick deviceWriteChecks
 checks-write ms shadow d n = refl
 
--- a verdict that comes with no run
-pub without-run-meets : {ms : List Mapping} {d : DeviceAddress} {size at len : ℕ} {verdict given due : Verdict} → (verdict ≡ given) × (at ≡ 0) × (len ≡ 0)
-    → due ≡ given → (verdict ≡ due) × FirstRun ms d size at len
-without-run-meets r e = (r .0 ∙ sym e, record { room = omega (arith, r .1, r .2); shows = λ j h. absurd (omega (arith, r .2)) })
-
 module _ (fault : Translation → Verdict) (ms : List Mapping) (d : DeviceAddress) (n : ℕ) where
-  pub checks-long : transferLimit < n → transferChecks fault ms d n ≡ Fail TooLong 0
-  unfolding transferChecks lengthCheck
-  checks-long h = then-fail _ _ _ _ (when-true _ _ (lt-ltb _ _ h))
-
   module _ (short : n ≤ transferLimit) where
     in-length : lengthCheck n ≡ Pass
     unfolding lengthCheck
     in-length = when-false _ _ (le-ltb _ _ short)
-
-    pub checks-range : deviceLimit < d .0 + n → transferChecks fault ms d n ≡ Fail Range 0
-    unfolding transferChecks inDeviceRange
-    checks-range h = then-next _ _ in-length ∙ then-fail _ _ _ _ (unless-false _ _ (lt-leb _ _ h))
 
     pub checks-offsets : d .0 + n ≤ deviceLimit → transferChecks fault ms d n ≡ firstFault (λ i. fault (translate ms (deviceOffset d i))) n
     unfolding transferChecks inDeviceRange
@@ -180,13 +167,3 @@ module _ (ms : List Mapping) (d : DeviceAddress) (k a len : ℕ) (run : Contiguo
       let first : scatter ms (deviceOffset d k) (slice buf k len) ≡ stores (memoryAddress a) (slice buf k len) =
       scatter-run ms (deviceOffset d k) a (slice buf k len) (rw e run) in
       sym (ap (λ (xs : List ℕ). edited (scatter ms (deviceOffset d k) xs) m) split ∙ rw (scatter-append, edited-append, first, e, next))
-
--- a run that is the whole of a transfer
-module _ {ms : List Mapping} {d : DeviceAddress} {size at len : ℕ} (first : FirstRun ms d size at len) (buf : List ℕ) (whole : len ≡ length buf) where
-  pub gather-one : (m : Memory) → size ≡ length (m .bytes) → sets buf 0 (slice (m .bytes) at len) ≡ gather ms m d (length buf)
-  gather-one m level =
-      let room : at + len ≤ length (m .bytes) = omega (arith, first .room) in
-      rw (← whole, ← gather-run ms m d at len (first .shows) room) (sets-all buf _ (gather-length ms m d len ∙ whole))
-
-  pub scatter-one : scatter ms d buf ≡ stores (memoryAddress at) (slice buf 0 len)
-  scatter-one = rw (whole, take-length buf) (scatter-run ms d at buf (rw whole at (first .shows)))

@@ -2,24 +2,36 @@
 use Prim.Native.Nat.{ℕ, _+_, _-_, _≤_, _<_}
 use mathlib.Core.Bool.{Bool, true}
 use mathlib.Core.Path.{_≡_}
-use mathlib.Core.List.{List}
+use mathlib.Core.List.{List, []}
 use lib.Dec.{ltb}
-use Rattle.answer.specs.Tests.{pick}
+use lib.ListN.{length}
+use lib.Seq.{sets}
+use Rattle.answer.specs.Tests.{_and_, pick}
+use Rattle.answer.specs.Codes.{Range, Unmapped}
+use Rattle.answer.specs.Checks.{_then_, _when_, _unless_, _at_, firstFault, passes}
+use Rattle.answer.specs.Limits.{lengthCheck}
 use Rattle.answer.specs.declared.Verdict.{Verdict}
-use Rattle.address.specs.Address.{deviceLimit, memoryLimit, memoryAddress, deviceOffset}
+use Rattle.answer.specs.declared.Verdict.the-variants.{Pass, Fail}
+use Rattle.wire.specs.Field.{slice}
+use Rattle.address.specs.Address.{deviceLimit, memoryLimit, memoryAddress, memoryOffset, deviceOffset, inDeviceRange}
 use Rattle.address.specs.declared.DeviceAddress.{DeviceAddress}
-use Rattle.iommu.specs.Table.{capacity, end, addressIn, translate, mapped, soundTable, inUse}
+use Rattle.iommu.specs.Table.{Table, capacity, end, addressIn, translate, mapped, inRange, soundTable, inUse}
 use Rattle.iommu.specs.declared.Mapping.{Mapping}
-use Rattle.iommu.specs.declared.Table.{Table}
 use Rattle.iommu.specs.declared.Translation.{Translation}
+use Rattle.iommu.specs.declared.Translation.the-variants.{At}
 use Rattle.memory.specs.Shadow.{Shadow}
+use Rattle.memory.specs.Memory.{Edit, stores}
+use Rattle.dma.specs.declared.Checked.{Checked}
+use Rattle.dma.specs.declared.Progress.{Progress}
 use Rattle.dma.specs.declared.Run.{Run}
 use Rattle.dma.specs.declared.Run.the-variants.{Gap, Passed, Shows}
+use Rattle.dma.specs.declared.Walk.{Walk}
 use Rattle.dma.specs.Transfers.{readFault, writeFault, location}
 
 -- what a transfer asks of the table over a memory of `size` bytes; refusal 1 has been tried before
 pub record Ready (t : Table) (size : ℕ) : Type 0 where
   pub few : t .count ≤ capacity
+  pub fits : t .count ≤ length (t .entries)
   pub sound : soundTable size (inUse t) ≡ true
   pub limit : size ≤ memoryLimit
 
@@ -31,11 +43,6 @@ pub record Accepted (ms : List Mapping) (d : DeviceAddress) (n : ℕ) : Type 0 w
 -- the n device addresses from d on show the memory from a on
 abbrev pub Contiguous : List Mapping → DeviceAddress → ℕ → ℕ → Type 0
 Contiguous ms d a n = (j : ℕ) → j < n → location (translate ms (deviceOffset d j)) ≡ memoryAddress (a + j)
-
--- the first `len` bytes of a transfer from `d` on are those from `at` on of a memory of `size` bytes; with `len` 0 it says nothing
-pub record FirstRun (ms : List Mapping) (d : DeviceAddress) (size at len : ℕ) : Type 0 where
-  pub room : at + len ≤ size
-  pub shows : Contiguous ms d at len
 
 -- what a mapping shows of the `n` device addresses from `d` on (rule 4.4): nothing, since it begins past `d` or ends before it; or the
 -- first of them, up to its end
@@ -49,3 +56,68 @@ runIn m d n =
 -- what is wrong with one byte, of a write or of a read
 unfoldable pub faultOf : Bool → Shadow → Translation → Verdict
 faultOf write shadow = pick write writeFault (readFault shadow)
+
+-- what a look at one record asks of it, at offset `done` and place `place` of a transfer of `n` bytes from `d` on: no sum leaves 64 bits, and
+-- what the mapping shows lies in a memory of `room` bytes
+pub record RunBounds (m : Mapping) (d : DeviceAddress) (n done place room : ℕ) : Type 0 where
+  pub range : inRange memoryLimit m ≡ true
+  pub shown : m .memory .0 + m .size ≤ room
+  pub some : done < n
+  pub below : d .0 + n ≤ deviceLimit
+  pub few : place < capacity
+
+-- ---- judging
+
+abbrev pub progress : Verdict → ℕ → ℕ → Progress
+progress verdict place done = record { verdict = verdict; place = place; done = done }
+
+abbrev pub checked : Verdict → ℕ → Checked
+checked verdict first = record { verdict = verdict; first = first }
+
+-- the checks that look at no record
+unfoldable pub beginning : DeviceAddress → ℕ → ℕ → Progress
+beginning d n place = progress (lengthCheck n then Range unless inDeviceRange d n) place 0
+
+-- no fault so far, and an offset and a record left
+unfoldable pub goingOn : Progress → ℕ → ℕ → Bool
+goingOn p n count = passes (p .verdict) and ltb (p .done) n and ltb (p .place) count
+
+-- a run of `len` offsets, by the verdict on it
+unfoldable pub judgedRun : Progress → ℕ → Verdict → Progress
+judgedRun p len Pass = progress Pass (p .place + 1) (p .done + len)
+judgedRun p len (Fail code place) = progress (Fail code (p .done + place)) (p .place) (p .done)
+
+-- what one record shows
+unfoldable pub judgedBy : (Translation → Verdict) → ℕ → Progress → Run → Progress
+judgedBy fault rights p Gap = progress (Fail Unmapped (p .done)) (p .place) (p .done)
+judgedBy fault rights p Passed = progress Pass (p .place + 1) (p .done)
+judgedBy fault rights p (Shows a len) = judgedRun p len (firstFault (λ i. fault (At (memoryOffset (memoryAddress a) i) rights)) len)
+
+unfoldable pub judged : (Translation → Verdict) → Mapping → DeviceAddress → ℕ → Progress → Progress
+judged fault m d n p = judgedBy fault (m .rights) p (runIn m (deviceOffset d (p .done)) (n - p .done))
+
+-- an offset that no record shows is not mapped
+unfoldable pub finished : Progress → ℕ → ℕ → Checked
+finished p first n = checked (p .verdict then Unmapped when ltb (p .done) n at p .done) first
+
+-- ---- moving bytes
+
+abbrev pub walkAt : ℕ → ℕ → Walk
+walkAt place done = record { place = place; done = done }
+
+-- behind one record
+unfoldable pub walkedOn : Walk → Run → Walk
+walkedOn w Gap = walkAt (w .place + 1) (w .done)
+walkedOn w Passed = walkAt (w .place + 1) (w .done)
+walkedOn w (Shows a len) = walkAt (w .place + 1) (w .done + len)
+
+-- what it shows of memory, read into a buffer; and of a buffer, stored
+unfoldable pub readRun : List ℕ → ℕ → Run → List ℕ → List ℕ
+readRun bytes done Gap buf = buf
+readRun bytes done Passed buf = buf
+readRun bytes done (Shows a len) buf = sets buf done (slice bytes a len)
+
+unfoldable pub writtenRun : List ℕ → ℕ → Run → List Edit
+writtenRun buf done Gap = []
+writtenRun buf done Passed = []
+writtenRun buf done (Shows a len) = stores (memoryAddress a) (slice buf done len)

@@ -8,3 +8,4 @@ pub mod StateCalls
 pub mod PartCalls
 pub mod Returned
 pub mod SameMarks
+pub mod Contracts

@@ -28,7 +28,7 @@ use Rattle.emulator.specs.Calls.{Call, powerOn, request, lookUp, deviceR
 
 -- the same emulator with another shadow
 unfoldable pub shadowedBy : Shadow → Emulator → Emulator
-shadowedBy t e = record { memory = record { bytes = e .memory .bytes; shadow = t }; machine = e .machine }
+shadowedBy t e = record { memory = record { bytes = e .memory .bytes; shadow = t }; room = e .room; machine = e .machine }
 
 module _ (t : Shadow) (e : Emulator)
     (lent : lendable (shadowedBy t e .memory) ≡ lendable (e .memory))
@@ -36,7 +36,7 @@ module _ (t : Shadow) (e : Emulator)
   where
     usable-same : (g : Given) → usable g (shadowedBy t e) ≡ usable g e
     unfolding usable shadowedBy asNoted
-    usable-same memoryAlone = lent
+    usable-same memoryAlone = rw lent
     usable-same stateAlone = refl
     usable-same both = rw lent
 

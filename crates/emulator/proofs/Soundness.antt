@@ -1,108 +1,119 @@
 -- Refusal 1, test by test.
 use Prim.Native.Nat.{_≤_, _*_}
-use mathlib.Core.Path.{_≡_, refl, sym, _∙_}
-use mathlib.Core.Bool.{Bool, true, false, not}
+use mathlib.Core.Path.{_≡_, refl, _∙_}
+use mathlib.Core.Bool.{Bool, true, false}
+use mathlib.Core.List.{List}
 use lib.ListN.{length}
-use lib.Dec.{leb}
-use borrow.Author.Tests.{eq-eqb, ne-eqb, leb-true, eqb-true}
+use lib.Dec.{leb, eqb}
+use borrow.Author.Tests.{leb-true, eqb-true}
 use Rattle.answer.specs.Tests.{_and_}
-use Rattle.answer.proofs.Tests.{and-true, and-false, and-second, first-not, second-not, third-is, found-false, found-true}
+use Rattle.answer.proofs.Tests.{and-true, and-swap, and-first, and-second}
 use Rattle.address.specs.Address.{memoryLimit}
-use Rattle.iommu.specs.Table.{capacity, soundTable, inUse, Sound}
+use Rattle.iommu.specs.Table.{capacity, soundTable, tableOf, inUse, Sound}
+use Rattle.iommu.specs.declared.Mapping.{Mapping}
 use Rattle.iommu.proofs.Soundness.{sound-table}
-use Rattle.memory.specs.Shadow.{markBytes, shadowLength}
+use Rattle.memory.specs.Shadow.{markBytes}
 use Rattle.memory.proofs.Marks.{due-room}
 use Rattle.memory.specs.Memory.{Memory}
+use Rattle.dma.specs.Walk.{Ready}
 use Rattle.registers.specs.Cards.{isCard, wordRoom}
 use Rattle.registers.specs.File.{soundFile, fileOf}
 use Rattle.registers.proofs.Cards.{card-small}
-use Rattle.emulator.specs.Machine.{machineOf, emulatorOf, soundMappings, soundLength, soundCard, soundRegisters, sound, lendable, asNoted, both, usable}
+use Rattle.emulator.specs.Machine.{machineOf, emulatorOf, lendableRecords, soundMappings, soundLength, soundCard, soundRegisters, sound, lendable, asNoted, both, usable}
 use Rattle.emulator.specs.declared.State.{State}
 
--- ---- the kept state
+-- ---- memory and marks
 
--- the first of three tests: the card's, which the registers are judged by
-pub first-holds : (a b c : Bool) → (a and b and c) ≡ true → a ≡ true
-first-holds a b c h = and-true _ _ (and-true _ _ h .0) .0
+-- what can be lent has a mark for each byte, and is not too long
+module _ (m : Memory) (lent : lendable m ≡ true) where
+  pub mark-room : length (m .bytes) ≤ 8 * markBytes (m .shadow)
+  unfolding lendable
+  mark-room = due-room (m .shadow) (length (m .bytes)) (eqb-true _ _ (and-true _ _ (and-true _ _ lent .0) .1))
 
-module _ (s : State) where
-  -- the tests of card, noted length and mappings, as the code makes them
-  abbrev pub mappingsSound : Bool
-  mappingsSound =
-      isCard (s .words) and leb (s .«memory_length») memoryLimit and (leb (s .table .count) capacity and soundTable (s .«memory_length») (inUse (s .table)))
+  pub lent-small : length (m .bytes) ≤ memoryLimit
+  unfolding lendable
+  lent-small = leb-true _ _ (and-true _ _ lent .1)
 
-  -- that of the registers, likewise
-  abbrev pub registersSound : Bool
-  registersSound = soundFile (s .words) (fileOf (s .words) (s .registers))
+-- ---- the kept state, with the records that are lent
 
-  pub sound-not : mappingsSound ≡ false → sound (machineOf s) ≡ false
-  unfolding sound soundCard soundLength soundMappings machineOf
-  sound-not h = and-false _ _ h
+module _ (s : State) (rs : List Mapping) where
+  -- the code asks the device first, and then the mappings
+  pub sound-is : (isCard (s .words) and leb (s .«memory_length») memoryLimit and soundFile (s .words) (fileOf (s .words) (s .registers))
+      and (leb (length rs) capacity and leb (s .count) (length rs) and soundTable (s .«memory_length») (inUse (tableOf rs (s .count)))))
+      ≡ sound (length rs) (machineOf s rs)
+  unfolding sound soundCard soundLength soundMappings lendableRecords soundRegisters machineOf
+  sound-is = and-swap _ _ _
 
-  pub sound-rest : mappingsSound ≡ true → sound (machineOf s) ≡ registersSound
-  unfolding sound soundCard soundLength soundMappings soundRegisters machineOf
-  sound-rest h = sym (and-second h refl)
+  -- of the device, of the mappings, and of both
+  sound-found : {device mappings r : Bool} → device ≡ (isCard (s .words) and leb (s .«memory_length») memoryLimit and soundFile (s .words) (fileOf (s .words) (s .registers)))
+      → mappings ≡ (leb (length rs) capacity and leb (s .count) (length rs) and soundTable (s .«memory_length») (inUse (tableOf rs (s .count)))) → r ≡ (device and mappings)
+      → r ≡ sound (length rs) (machineOf s rs)
+  sound-found d m e = e ∙ rw (d, m) sound-is
 
-  -- what is known where the code has asked for both: p is what it found of card, length and mappings, and q of the registers
-  module _ {p q : Bool} (mappings : p ≡ mappingsSound) (file : q ≡ registersSound) where
-    pub sound-both : not p ≡ false → not q ≡ false → sound (machineOf s) ≡ true
-    sound-both h g = sound-rest (found-true mappings h) ∙ found-true file g
+  -- the device is judged first
+  module _ {device : Bool} (is : device ≡ (isCard (s .words) and leb (s .«memory_length») memoryLimit and soundFile (s .words) (fileOf (s .words) (s .registers)))) where
+    pub sound-by-mappings : device ≡ true → {r : Bool} → r ≡ (leb (length rs) capacity and leb (s .count) (length rs) and soundTable (s .«memory_length») (inUse (tableOf rs (s .count))))
+        → r ≡ sound (length rs) (machineOf s rs)
+    sound-by-mappings h {r} e = sound-found is e (and-second h refl)
 
-    pub sound-second-not : not p ≡ false → not q ≡ true → sound (machineOf s) ≡ false
-    sound-second-not h g = sound-rest (found-true mappings h) ∙ found-false file g
+    pub unsound-device : device ≡ false → device ≡ sound (length rs) (machineOf s rs)
+    unsound-device h = sound-found is refl (and-first _ h refl)
 
-  -- what functions below may ask of the card
-  pub sound-card : sound (machineOf s) ≡ true → isCard (s .words) ≡ true
-  unfolding sound soundCard soundLength soundMappings machineOf
-  sound-card h = first-holds _ _ _ (and-true _ _ h .0)
+  module _ (good : sound (length rs) (machineOf s rs) ≡ true) where
+    card-and-length : (isCard (s .words) and leb (s .«memory_length») memoryLimit) ≡ true
+    unfolding sound soundCard soundLength machineOf
+    card-and-length = and-true _ _ (and-true _ _ good .0) .0
 
-  pub sound-small : sound (machineOf s) ≡ true → s .words ≤ wordRoom
-  sound-small h = card-small (s .words) (sound-card h)
+    -- what functions below may ask of the card
+    pub sound-card : isCard (s .words) ≡ true
+    sound-card = and-true _ _ card-and-length .0
 
-  -- what they may ask of the table
-  pub sound-ready : sound (machineOf s) ≡ true → Sound (s .table) × (s .«memory_length» ≤ memoryLimit)
-  unfolding sound soundCard soundLength soundMappings machineOf
-  sound-ready h =
-      let b = and-true _ _ (and-true _ _ h .0) in
-      let few = leb-true _ _ (and-true _ _ (b .0) .1) in
-      (sound-table (s .table) (s .«memory_length») (b .1) few, few)
+    pub sound-small : s .words ≤ wordRoom
+    sound-small = card-small (s .words) sound-card
+
+    pub sound-noted : s .«memory_length» ≤ memoryLimit
+    sound-noted = leb-true _ _ (and-true _ _ card-and-length .1)
+
+    -- what they may ask of the table
+    pub sound-mappings : soundMappings (length rs) (machineOf s rs) ≡ true
+    unfolding sound
+    sound-mappings = and-true _ _ (and-true _ _ good .0) .1
+
+    pub sound-records : Sound (tableOf rs (s .count))
+    unfolding soundMappings lendableRecords machineOf
+    sound-records = sound-table (tableOf rs (s .count)) (s .«memory_length») sound-mappings sound-noted
+
+    pub sound-list : soundTable (s .«memory_length») (inUse (tableOf rs (s .count))) ≡ true
+    unfolding soundMappings machineOf
+    sound-list = and-true _ _ sound-mappings .1
 
 -- ---- memory, marks and state
 
-module _ (s : State) (m : Memory) where
-  pub usable-not-lent : lendable m ≡ false → false ≡ usable both (emulatorOf s m)
-  unfolding usable emulatorOf
-  usable-not-lent h = first-not _ _ h
+module _ (s : State) (rs : List Mapping) (m : Memory) where
+  -- the code asks for memory and marks first
+  pub usable-is : (lendable m and eqb (length (m .bytes)) (s .«memory_length») and sound (length rs) (machineOf s rs)) ≡ usable both (emulatorOf s rs m)
+  unfolding usable emulatorOf asNoted machineOf
+  usable-is = refl
 
-  module _ (lent : lendable m ≡ true) where
-    pub usable-not-noted : (length (m .bytes) ≡ s .«memory_length» → ⊥) → false ≡ usable both (emulatorOf s m)
+  pub usable-found : {lent kept r : Bool} → lent ≡ (lendable m and eqb (length (m .bytes)) (s .«memory_length»)) → kept ≡ sound (length rs) (machineOf s rs) → r ≡ (lent and kept)
+      → r ≡ usable both (emulatorOf s rs m)
+  usable-found l k e = e ∙ rw (l, k) usable-is
+
+  module _ (good : usable both (emulatorOf s rs m) ≡ true) where
+    pub usable-lent : lendable m ≡ true
+    unfolding usable emulatorOf
+    usable-lent = and-true _ _ (and-true _ _ good .0) .0
+
+    pub usable-noted : length (m .bytes) ≡ s .«memory_length»
     unfolding usable emulatorOf asNoted machineOf
-    usable-not-noted h = second-not _ lent (ne-eqb _ _ h)
+    usable-noted = eqb-true _ _ (and-true _ _ (and-true _ _ good .0) .1)
 
-    pub usable-rest : length (m .bytes) ≡ s .«memory_length» → sound (machineOf s) ≡ usable both (emulatorOf s m)
-    unfolding usable emulatorOf asNoted machineOf
-    usable-rest h = third-is _ lent (eq-eqb _ _ h)
+    pub usable-sound : sound (length rs) (machineOf s rs) ≡ true
+    unfolding usable emulatorOf
+    usable-sound = and-true _ _ good .1
 
-  -- what a call that may use them knows
-  pub record Ready : Type 0 where
-    pub table : Sound (s .table)
-    pub noted : length (m .bytes) ≡ s .«memory_length»
-    pub room : length (m .bytes) ≤ 8 * markBytes (m .shadow)
-    pub small : length (m .bytes) ≤ memoryLimit
-    pub mappings : soundTable (length (m .bytes)) (inUse (s .table)) ≡ true
-
-  pub ready : usable both (emulatorOf s m) ≡ true → Ready
-  unfolding usable emulatorOf asNoted lendable machineOf sound soundCard soundLength soundMappings
-  ready h =
-      let r = and-true _ _ h in
-      let q = and-true _ _ (r .0) in
-      let l = and-true _ _ (q .0) in
-      let noted : length (m .bytes) ≡ s .«memory_length» = eqb-true _ _ (q .1) in
-      let t = and-true _ _ (and-true _ _ (r .1) .0) in
-      record {
-        table = sound-ready s (r .1) .0;
-        noted = noted;
-        room = due-room (m .shadow) (length (m .bytes)) (eqb-true _ _ (and-true _ _ (l .0) .1));
-        small = leb-true _ _ (l .1);
-        mappings = rw noted (and-true _ _ (t .1) .1);
-      }
+    -- what transfers ask of the table, over memory
+    pub transfers-ready : Ready (tableOf rs (s .count)) (length (m .bytes))
+    transfers-ready =
+        let t = sound-records s rs usable-sound in
+        record { few = t .few; fits = t .fits; sound = rw usable-noted (sound-list s rs usable-sound); limit = lent-small m usable-lent }

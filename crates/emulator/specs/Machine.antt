@@ -6,7 +6,7 @@ use lib.ListN.{length}
 use lib.Dec.{leb, eqb}
 use Rattle.answer.specs.Tests.{_and_, flagged}
 use Rattle.address.specs.Address.{memoryLimit}
-use Rattle.iommu.specs.Table.{capacity, soundTable, inUse}
+use Rattle.iommu.specs.Table.{capacity, soundTable, tableOf, inUse}
 use Rattle.iommu.specs.declared.Mapping.{Mapping}
 use Rattle.memory.specs.Shadow.{marks, markBytes, shadowLength}
 use Rattle.memory.specs.Memory.{Memory}
@@ -15,9 +15,9 @@ use Rattle.registers.specs.File.{File, reset, soundFile, fileOf}
 use Rattle.registers.specs.declared.Card.{Card}
 use Rattle.emulator.specs.declared.State.{State}
 
--- What the kept state means: no entry past the count and no value of an unset register (rule 1.13). `mappings` are the entries in use,
--- which are `count` where the state is sound; `memoryLength` is the noted length, and `words` is how many words the card has of features
--- (rule 1.15).
+-- What the kept state means with the records that are lent: no record past the count and no value of an unset register (rule 1.13).
+-- `mappings` are the records in use, which are `count` where the state is sound; `memoryLength` is the noted length, and `words` is how
+-- many words of features the card has (rule 1.15).
 pub record Machine : Type 0 where
   pub memoryLength : ℕ
   pub count : ℕ
@@ -26,26 +26,27 @@ pub record Machine : Type 0 where
   pub running : Bool
   pub words : ℕ
 
--- memory with its marks, and the kept state
+-- memory with its marks, how many records are lent (rule 1.8), and the kept state
 pub record Emulator : Type 0 where
   pub memory : Memory
+  pub room : ℕ
   pub machine : Machine
 
--- what the code's state means (rule 1.14 for the flag)
-unfoldable pub machineOf : State → Machine
-machineOf s =
+-- what the code's state means with lent records (rule 1.14 for the flag)
+unfoldable pub machineOf : State → List Mapping → Machine
+machineOf s rs =
     record {
       memoryLength = s .«memory_length»;
-      count = s .table .count;
-      mappings = inUse (s .table);
+      count = s .count;
+      mappings = inUse (tableOf rs (s .count));
       registers = fileOf (s .words) (s .registers);
       running = flagged (s .running);
       words = s .words;
     }
 
--- the emulator that lent memory makes with the code's state
-unfoldable pub emulatorOf : State → Memory → Emulator
-emulatorOf s m = record { memory = m; machine = machineOf s }
+-- the emulator that lent records and memory make with the code's state
+unfoldable pub emulatorOf : State → List Mapping → Memory → Emulator
+emulatorOf s rs m = record { memory = m; room = length rs; machine = machineOf s rs }
 
 -- ---- soundness, in named pieces
 
@@ -53,9 +54,13 @@ emulatorOf s m = record { memory = m; machine = machineOf s }
 unfoldable pub soundCard : Machine → Bool
 soundCard k = isCard (k .words)
 
--- rule 1.12: at most 64 mappings, in order and apart, each of them sound with the noted length
-unfoldable pub soundMappings : Machine → Bool
-soundMappings k = leb (k .count) capacity and soundTable (k .memoryLength) (k .mappings)
+-- rules 1.8 and 2.6: at most 4,096 records are lent
+unfoldable pub lendableRecords : ℕ → Bool
+lendableRecords room = leb room capacity
+
+-- rules 1.12, 7.25: with so many records lent, no more mappings than those, in order and apart, each of them sound with the noted length
+unfoldable pub soundMappings : ℕ → Machine → Bool
+soundMappings room k = lendableRecords room and leb (k .count) room and soundTable (k .memoryLength) (k .mappings)
 
 -- rule 1.12: the noted length is at most 2^30, whatever the table holds
 unfoldable pub soundLength : Machine → Bool
@@ -66,8 +71,8 @@ unfoldable pub soundRegisters : Machine → Bool
 soundRegisters k = soundFile (k .words) (k .registers)
 
 -- rule 1.12, whole
-unfoldable pub sound : Machine → Bool
-sound k = soundCard k and soundLength k and soundMappings k and soundRegisters k
+unfoldable pub sound : ℕ → Machine → Bool
+sound room k = soundCard k and soundLength k and soundMappings room k and soundRegisters k
 
 -- ---- refusal 1, on what a call is given
 
@@ -81,15 +86,15 @@ lendable m =
 unfoldable pub asNoted : Emulator → Bool
 asNoted e = eqb (length (e .memory .bytes)) (e .machine .memoryLength)
 
--- rule 2.7: what a call is given: memory with its marks, the kept state, or both
+-- rule 2.7: what a call is given beside the records: memory with its marks, the kept state, or both
 pub data Given : Type 0 where
   memoryAlone stateAlone both : Given
 
 -- rule 2.6: whether 1 passes, on what a call is given
 unfoldable pub usable : Given → Emulator → Bool
-usable memoryAlone e = lendable (e .memory)
-usable stateAlone e = sound (e .machine)
-usable both e = lendable (e .memory) and asNoted e and sound (e .machine)
+usable memoryAlone e = lendable (e .memory) and lendableRecords (e .room)
+usable stateAlone e = sound (e .room) (e .machine)
+usable both e = lendable (e .memory) and asNoted e and sound (e .room) (e .machine)
 
 -- ---- states that calls leave
 

@@ -1,35 +1,42 @@
-// The emulator: every call but requests. None asks anything of its caller (rule 8.1); each contract determines the answer, every lent byte
-// and the state that is returned (rule 8.2).
+// The emulator: the kept state and its soundness, and what each call but requests does once refusal 1 is decided. The calls themselves,
+// which borrow the state and the records, are those that are exported (crate `capi`).
 use address::DeviceAddress;
 use address::MemoryAddress;
 use answer::Answer;
 use answer::Verdict;
-use iommu::Table;
+use iommu::Mapping;
 use iommu::Translation;
 use parts::Loaded;
 use registers::Card;
 use registers::Registers;
 ghost use mathlib.Core.Path.{_≡_};
+ghost use mathlib.Core.Bool.{true};
 ghost use mathlib.Core.List.{List, []};
-ghost use Prim.Native.Nat.{ℕ};
-ghost use lib.Dec.{leb};
-ghost use Rattle.answer.specs.Tests.{_and_, flagByte};
-ghost use Rattle.address.specs.Address.{memoryLimit};
-ghost use Rattle.iommu.specs.Table.{capacity, soundTable, inUse};
+ghost use lib.Dec.{leb, eqb};
+ghost use lib.ListN.{length};
+ghost use Rattle.answer.specs.Tests.{_and_, pick, flagged, flagByte};
+ghost use Rattle.answer.specs.Answer.{refused};
+ghost use Rattle.address.specs.Address.{memoryLimit, memoryAddress};
+ghost use Rattle.iommu.specs.Table.{holds, inRange, shownBy, translate};
+ghost use Rattle.iommu.specs.declared.Mapping.{Mapping as MappingRecord};
+ghost use Rattle.memory.specs.Memory.{memoryOf, edited, clears};
 ghost use Rattle.registers.specs.Cards.{isCard};
+ghost use Rattle.registers.specs.File.{soundFile, fileOf};
+ghost use Rattle.registers.specs.declared.Card.the-variants.{Features64, Features128};
 ghost use Rattle.parts.specs.Load.{loadedOf};
-ghost use Rattle.emulator.specs.Machine.{machineOf, emulatorOf, both, sound as soundMachine, lendable as canLend, usable as canUse};
-ghost use Rattle.emulator.specs.Calls.{powerOn, lookUp, deviceRead, deviceWrite, hostWrite, hostRead, setRegister, readRegister, loadParts, saveParts, loadOn};
+ghost use Rattle.emulator.specs.Machine.{machineOf, emulatorOf, both as stateAndMemory, sound as soundMachine, lendable as canLend, lendableRecords, usable as canUse, poweredOn};
+ghost use Rattle.emulator.specs.Calls.{lookUp, hostWrite, hostRead, setRegister, readRegister, saveParts, loadOn};
 ghost use Rattle.emulator.specs.Calls as calls;
-ghost use Rattle.emulator.specs.Contract.{Meets, MeetsAlone, lentMemory, leftMemory, remarkedMemory, told, toldLocation, runCall, withRegistersIn, withRunningIn};
+ghost use Rattle.emulator.specs.Contract.{Meets, MeetsAlone, lentMemory, leftMemory, remarkedMemory, told, toldLocation, withRegistersIn, stateWith, everything};
+ghost use Rattle.emulator.specs.declared.State.{State as StateRecord};
 
-// The state that a caller keeps between calls: the length of memory noted at power on, the mapping table, the device's registers,
-// whether the device runs, and which card it is, by its 64-bit words of features: 1 or 2. It runs where `running` is 1, and no other value
-// of that byte says so. Any values may stand in the state: each call says whether they make a sound one.
+// The state that a caller keeps between calls: the length of memory noted at power on, how many of the lent records are in use, the
+// device's registers, whether the device runs, and which card it is, by its 64-bit words of features: 1 or 2. It runs where `running` is 1,
+// and no other value of that byte says so. Any values may stand in the state: each call says whether they make a sound one.
 #[repr(C)]
 pub struct State {
     pub memory_length: u64,
-    pub table: Table,
+    pub count: usize,
     pub registers: Registers,
     pub running: u8,
     pub words: u8,
@@ -38,21 +45,23 @@ pub struct State {
 // What the byte `running` of a state holds where the device runs.
 const RUNNING: u8 = 1;
 
-// An answer, and the state to keep.
-pub struct Reply {
-    pub answer: Answer,
-    pub state: State,
-}
-
 // What look-up answers: memory address and rights, or a refusal's number and place.
 pub enum Location {
     At(MemoryAddress, u32),
     Refused(u32, u64),
 }
 
-// Whether the card, the noted length and the mappings of a kept state are sound.
-fn sound_mappings(words: u8, length: u64, table: Table) -> bool
-    ensures { λ r. ⌜ r ≡ (isCard words and leb length memoryLimit and (leb (table .count) capacity and soundTable length (inUse table))) ⌝ }
+// An answer, and the registers to keep.
+pub struct Changed {
+    pub answer: Answer,
+    pub registers: Registers,
+}
+
+// ---- refusal 1
+
+// Whether the card, the noted length and the registers of a kept state are sound.
+fn sound_device(words: u8, length: u64, registers: Registers) -> bool
+    ensures { λ r. ⌜ r ≡ (isCard words and leb length memoryLimit and soundFile words (fileOf words registers)) ⌝ }
 {
     if !registers::is_card(words) {
         return false;
@@ -60,19 +69,29 @@ fn sound_mappings(words: u8, length: u64, table: Table) -> bool
     if address::MEMORY_LIMIT < length {
         return false;
     }
-    iommu::sound(table, length)
+    registers::sound(words, registers)
 }
 
-// Whether a kept state is sound.
-pub fn sound(state: State) -> bool
-    ensures { λ r. ⌜ r ≡ soundMachine (machineOf state) ⌝ }
+fn both(a: bool, b: bool) -> bool
+    ensures { λ r. ⌜ r ≡ (a and b) ⌝ }
 {
-    let table = state.table;
-    if !sound_mappings(state.words, state.memory_length, table) {
-        return false;
-    }
+    a && b
+}
+
+// Whether a kept state is sound with the records that are lent.
+pub fn sound(state: &State, records: &[Mapping]) -> bool
+    ensures { λ r. ⌜ r ≡ soundMachine (length (now (records .entry))) (machineOf (now (state .entry)) (now (records .entry))) ⌝ }
+{
+    let length = state.memory_length;
+    let count = state.count;
     let registers = state.registers;
-    registers::sound(state.words, registers)
+    let words = state.words;
+    let device = sound_device(words, length, registers);
+    // Where the noted length is known to be in range, the loop over records has one test less.
+    if device {
+        return iommu::sound(records, count, length);
+    }
+    device
 }
 
 // Whether memory and marks, by their lengths, can be lent.
@@ -86,56 +105,92 @@ fn lendable(bytes: &[u8], shadow: &[u8]) -> bool
     bytes.len() as u64 <= address::MEMORY_LIMIT
 }
 
-// Whether a call that is given memory, marks and state may use them.
-pub fn usable(state: State, bytes: &[u8], shadow: &[u8]) -> bool
-    ensures { λ r. ⌜ r ≡ canUse both (emulatorOf state (lentMemory bytes shadow)) ⌝ }
+// Whether they can be lent, and memory has the noted length.
+fn lendable_as_noted(noted: u64, bytes: &[u8], shadow: &[u8]) -> bool
+    ensures { λ r. ⌜ r ≡ (canLend (lentMemory bytes shadow) and eqb (length (now (bytes .entry))) noted) ⌝ }
 {
     if !lendable(bytes, shadow) {
         return false;
     }
-    if bytes.len() as u64 != state.memory_length {
-        return false;
-    }
-    sound(state)
+    bytes.len() as u64 == noted
 }
 
-// Fresh start of a card: all marks cleared, memory left as it is, its length noted; an empty table, and the device stopped and reset.
-pub fn power_on(state: State, card: Card, bytes: &[u8], shadow: &mut [u8]) -> Reply
-    ensures { λ r. ⌜ Meets (powerOn card) [] state (lentMemory bytes shadow) (told (r .answer)) [] (remarkedMemory bytes shadow) (r .state) ⌝ }
+// Whether a call that is given state, records, memory and marks may use them.
+pub fn usable(state: &State, records: &[Mapping], bytes: &[u8], shadow: &[u8]) -> bool
+    ensures { λ r. ⌜ r ≡ canUse stateAndMemory (emulatorOf (now (state .entry)) (now (records .entry)) (lentMemory bytes shadow)) ⌝ }
+{
+    let length = state.memory_length;
+    let lent = lendable_as_noted(length, bytes, shadow);
+    both(lent, sound(state, records))
+}
+
+// A number that a call goes on with, and 0 where refusal 1 is due.
+pub fn admitted(ok: bool, n: usize) -> usize
+    ensures { λ r. ⌜ r ≡ pick ok n 0 ⌝ }
+{
+    if ok {
+        return n;
+    }
+    0
+}
+
+// ---- calls, behind refusal 1: `ok` says whether it passes
+
+// Fresh start, as far as memory goes: the marks are cleared where records, memory and marks can be lent, and it says whether they can.
+pub fn clear_marks(room: usize, bytes: &[u8], shadow: &mut [u8]) -> bool
+    ensures { λ r. ⌜ (r ≡ (canLend (lentMemory bytes shadow) and lendableRecords room)) × (remarkedMemory bytes shadow ≡ pick r (edited (clears (memoryAddress 0) (length (now (bytes .entry)))) (lentMemory bytes shadow)) (lentMemory bytes shadow)) ⌝ }
 {
     if !lendable(bytes, shadow) {
-        return Reply {
-            answer: Answer::Refused(answer::BAD_BENCH, 0),
-            state,
-        };
+        return false;
+    }
+    if iommu::CAPACITY < room {
+        return false;
     }
     let n = bytes.len();
     memory::clear(shadow, 0, n);
-    let mut next = state;
-    next.memory_length = bytes.len() as u64;
-    next.table.count = 0;
+    true
+}
+
+// The state that a fresh start of a card leaves, with a memory of `length` bytes: an empty table, and the device stopped and reset.
+fn fresh(card: Card, length: usize) -> State
+    ensures { λ r. ⌜ ((s : StateRecord) → r ≡ stateWith everything (poweredOn card length) s) ⌝ }
+{
     let registers = registers::reset();
-    next.registers = registers;
-    next.running = 0;
-    next.words = registers::words_of(card);
-    Reply {
-        answer: Answer::Done(0),
-        state: next,
+    State {
+        memory_length: length as u64,
+        count: 0,
+        registers,
+        running: 0,
+        words: registers::words_of(card),
     }
 }
 
-// Look-up: where a device address lies in memory, and with which rights.
-pub fn look_up(state: State, d: DeviceAddress) -> Location
-    ensures { λ r. ⌜ MeetsAlone (lookUp d) [] state (toldLocation r) [] state ⌝ }
+// That of the first card.
+pub fn fresh_64(length: usize) -> State
+    ensures { λ r. ⌜ ((s : StateRecord) → r ≡ stateWith everything (poweredOn Features64 length) s) ⌝ }
 {
-    if !sound(state) {
+    fresh(Card::Features64, length)
+}
+
+// That of the second card, which has 128 feature bits.
+pub fn fresh_128(length: usize) -> State
+    ensures { λ r. ⌜ ((s : StateRecord) → r ≡ stateWith everything (poweredOn Features128 length) s) ⌝ }
+{
+    fresh(Card::Features128, length)
+}
+
+// Look-up: where a device address lies in memory, and with which rights. `m` is the first mapping that ends past it.
+pub fn locate(ok: bool, d: DeviceAddress, m: Mapping) -> Location
+    requires { ⌜ (ok ≡ true → holds m d ≡ true → inRange memoryLimit m ≡ true) ⌝ }
+    ensures { λ r. ⌜ ((s : StateRecord) (rs : List MappingRecord) → ok ≡ soundMachine (length rs) (machineOf s rs) → (ok ≡ true → shownBy m d ≡ translate (machineOf s rs .mappings) d) → MeetsAlone (lookUp d) [] s rs (toldLocation r) [] s rs) ⌝ }
+{
+    if !ok {
         return Location::Refused(answer::BAD_BENCH, 0);
     }
     if address::DEVICE_LIMIT <= d.0 {
         return Location::Refused(answer::RANGE, 0);
     }
-    let table = state.table;
-    let found = iommu::translate(table, d);
+    let found = iommu::shown_by(m, d);
     match found {
         Translation::At(a, rights) => Location::At(a, rights),
         Translation::Nowhere => Location::Refused(answer::UNMAPPED, 0),
@@ -144,15 +199,16 @@ pub fn look_up(state: State, d: DeviceAddress) -> Location
 
 // Host store: `buf` goes to memory from `a` on, and its bytes are written.
 pub fn host_write(
-    state: State,
+    ok: bool,
     bytes: &mut [u8],
     shadow: &mut [u8],
     a: MemoryAddress,
     buf: &[u8],
 ) -> Answer
-    ensures { λ r. ⌜ Meets (hostWrite a) (now (buf .entry)) state (lentMemory bytes shadow) (told r) (now (buf .entry)) (leftMemory bytes shadow) state ⌝ }
+    requires { ⌜ (ok ≡ true → canLend (memoryOf (now bytes) (now shadow)) ≡ true) ⌝ }
+    ensures { λ r. ⌜ ((s : StateRecord) (rs : List MappingRecord) → ok ≡ canUse stateAndMemory (emulatorOf s rs (lentMemory bytes shadow)) → Meets (hostWrite a) (now (buf .entry)) s rs (lentMemory bytes shadow) (told r) (now (buf .entry)) (leftMemory bytes shadow) s rs) ⌝ }
 {
-    if !usable(state, bytes, shadow) {
+    if !ok {
         return Answer::Refused(answer::BAD_BENCH, 0);
     }
     let n = buf.len();
@@ -168,16 +224,11 @@ pub fn host_write(
 }
 
 // Host load: the whole of `buf` is filled from memory at `a`.
-pub fn host_read(
-    state: State,
-    bytes: &[u8],
-    shadow: &[u8],
-    a: MemoryAddress,
-    buf: &mut [u8],
-) -> Answer
-    ensures { λ r. ⌜ Meets (hostRead a) (now (buf .entry)) state (lentMemory bytes shadow) (told r) (now (buf .exit)) (lentMemory bytes shadow) state ⌝ }
+pub fn host_read(ok: bool, bytes: &[u8], shadow: &[u8], a: MemoryAddress, buf: &mut [u8]) -> Answer
+    requires { ⌜ (ok ≡ true → canLend (memoryOf (now bytes) (now shadow)) ≡ true) ⌝ }
+    ensures { λ r. ⌜ ((s : StateRecord) (rs : List MappingRecord) → ok ≡ canUse stateAndMemory (emulatorOf s rs (lentMemory bytes shadow)) → Meets (hostRead a) (now (buf .entry)) s rs (lentMemory bytes shadow) (told r) (now (buf .exit)) (lentMemory bytes shadow) s rs) ⌝ }
 {
-    if !usable(state, bytes, shadow) {
+    if !ok {
         return Answer::Refused(answer::BAD_BENCH, 0);
     }
     let n = buf.len();
@@ -192,61 +243,12 @@ pub fn host_read(
     }
 }
 
-// Card read: the whole of `buf` is filled from the memory that the mappings show at the device addresses from `d` on.
-pub fn device_read(
-    state: State,
-    bytes: &[u8],
-    shadow: &[u8],
-    d: DeviceAddress,
-    buf: &mut [u8],
-) -> Answer
-    ensures { λ r. ⌜ Meets (deviceRead d) (now (buf .entry)) state (lentMemory bytes shadow) (told r) (now (buf .exit)) (lentMemory bytes shadow) state ⌝ }
-{
-    if !usable(state, bytes, shadow) {
-        return Answer::Refused(answer::BAD_BENCH, 0);
-    }
-    let table = state.table;
-    let checked = dma::check_read(table, bytes.len(), shadow, d, buf.len());
-    let verdict = checked.verdict;
-    match verdict {
-        Verdict::Fail(code, place) => Answer::Refused(code, place),
-        Verdict::Pass => {
-            dma::read(table, checked, bytes, d, buf);
-            Answer::Done(0)
-        }
-    }
-}
-
-// Card write: `buf` goes, in offset order, to the memory that the mappings show at the device addresses from `d` on.
-pub fn device_write(
-    state: State,
-    bytes: &mut [u8],
-    shadow: &mut [u8],
-    d: DeviceAddress,
-    buf: &[u8],
-) -> Answer
-    ensures { λ r. ⌜ Meets (deviceWrite d) (now (buf .entry)) state (lentMemory bytes shadow) (told r) (now (buf .entry)) (leftMemory bytes shadow) state ⌝ }
-{
-    if !usable(state, bytes, shadow) {
-        return Answer::Refused(answer::BAD_BENCH, 0);
-    }
-    let table = state.table;
-    let checked = dma::check_write(table, bytes.len(), shadow, d, buf.len());
-    let verdict = checked.verdict;
-    match verdict {
-        Verdict::Fail(code, place) => Answer::Refused(code, place),
-        Verdict::Pass => {
-            dma::write(table, checked, bytes, shadow, d, buf);
-            Answer::Done(0)
-        }
-    }
-}
-
 // Forget: the marks of `n` bytes from `a` on are cleared; the bytes stay.
-pub fn invalidate(state: State, bytes: &[u8], shadow: &mut [u8], a: MemoryAddress, n: u64) -> Answer
-    ensures { λ r. ⌜ Meets (calls.invalidate a n) [] state (lentMemory bytes shadow) (told r) [] (remarkedMemory bytes shadow) state ⌝ }
+pub fn invalidate(ok: bool, bytes: &[u8], shadow: &mut [u8], a: MemoryAddress, n: u64) -> Answer
+    requires { ⌜ (ok ≡ true → canLend (memoryOf (now bytes) (now shadow)) ≡ true) ⌝ }
+    ensures { λ r. ⌜ ((s : StateRecord) (rs : List MappingRecord) → ok ≡ canUse stateAndMemory (emulatorOf s rs (lentMemory bytes shadow)) → Meets (calls.invalidate a n) [] s rs (lentMemory bytes shadow) (told r) [] (remarkedMemory bytes shadow) s rs) ⌝ }
 {
-    if !usable(state, bytes, shadow) {
+    if !ok {
         return Answer::Refused(answer::BAD_BENCH, 0);
     }
     let verdict = memory::check_invalidate(bytes.len() as u64, a, n);
@@ -259,46 +261,63 @@ pub fn invalidate(state: State, bytes: &[u8], shadow: &mut [u8], a: MemoryAddres
     }
 }
 
-// Sets the register of a type and a selector number to the value `v`.
-pub fn set_register(state: State, kind: u64, selector: u64, v: &[u8]) -> Reply
-    ensures { λ r. ⌜ MeetsAlone (setRegister kind selector) (now (v .entry)) state (told (r .answer)) (now (v .entry)) (r .state) ⌝ }
+fn unchanged(code: u32, place: u64, registers: Registers) -> Changed
+    ensures { λ r. ⌜ (told (r .answer) ≡ refused code place) × (r .registers ≡ registers) ⌝ }
 {
-    if !sound(state) {
-        return Reply {
-            answer: Answer::Refused(answer::BAD_BENCH, 0),
-            state,
-        };
+    Changed {
+        answer: Answer::Refused(code, place),
+        registers,
     }
-    let verdict = registers::check_set(state.words, kind, selector, v);
+}
+
+// Sets the register of a type and a selector number to the value `v`, in the registers of a card.
+pub fn set_register(
+    ok: bool,
+    words: u8,
+    registers: Registers,
+    kind: u64,
+    selector: u64,
+    v: &[u8],
+) -> Changed
+    requires { ⌜ (ok ≡ true → isCard words ≡ true) ⌝ }
+    ensures { λ r. ⌜ ((s : StateRecord) (rs : List MappingRecord) → ok ≡ soundMachine (length rs) (machineOf s rs) → words ≡ s .words → registers ≡ s .registers → MeetsAlone (setRegister kind selector) (now (v .entry)) s rs (told (r .answer)) (now (v .entry)) (withRegistersIn (r .registers) s) rs) ⌝ }
+{
+    if !ok {
+        return unchanged(answer::BAD_BENCH, 0, registers);
+    }
+    let verdict = registers::check_set(words, kind, selector, v);
     match verdict {
-        Verdict::Fail(code, place) => Reply {
-            answer: Answer::Refused(code, place),
-            state,
-        },
+        Verdict::Fail(code, place) => unchanged(code, place, registers),
         Verdict::Pass => {
-            let registers = state.registers;
             let next = registers::set(registers, kind, selector, v);
-            Reply {
+            Changed {
                 answer: Answer::Done(0),
-                state: with_registers(state, next),
+                registers: next,
             }
         }
     }
 }
 
 // Reads the register of a type and a selector number: its value goes to the buffer's start, and its length is the result.
-pub fn read_register(state: State, kind: u64, selector: u64, buf: &mut [u8]) -> Answer
-    ensures { λ r. ⌜ MeetsAlone (readRegister kind selector) (now (buf .entry)) state (told r) (now (buf .exit)) state ⌝ }
+pub fn read_register(
+    ok: bool,
+    words: u8,
+    registers: Registers,
+    kind: u64,
+    selector: u64,
+    buf: &mut [u8],
+) -> Answer
+    requires { ⌜ (ok ≡ true → isCard words ≡ true) ⌝ }
+    ensures { λ r. ⌜ ((s : StateRecord) (rs : List MappingRecord) → ok ≡ soundMachine (length rs) (machineOf s rs) → words ≡ s .words → registers ≡ s .registers → MeetsAlone (readRegister kind selector) (now (buf .entry)) s rs (told r) (now (buf .exit)) s rs) ⌝ }
 {
-    if !sound(state) {
+    if !ok {
         return Answer::Refused(answer::BAD_BENCH, 0);
     }
-    let registers = state.registers;
-    let verdict = registers::check_read(state.words, registers, kind, selector, buf.len());
+    let verdict = registers::check_read(words, registers, kind, selector, buf.len());
     match verdict {
         Verdict::Fail(code, place) => Answer::Refused(code, place),
         Verdict::Pass => {
-            let n = registers::read(state.words, registers, kind, selector, buf);
+            let n = registers::read(words, registers, kind, selector, buf);
             Answer::Done(n as u64)
         }
     }
@@ -306,106 +325,44 @@ pub fn read_register(state: State, kind: u64, selector: u64, buf: &mut [u8]) -> 
 
 // What loading a stream of parts comes to, and the registers that were loaded: those named take their values, all others become unset;
 // where it is refused none of them is set.
-// Soundness is asked piece by piece, here and in saving: a call with the whole state would copy it.
-pub fn load_registers(state: State, stream: &[u8]) -> Loaded
-    ensures { λ r. ⌜ r ≡ loadedOf (loadOn (machineOf state) (now (stream .entry))) ⌝ }
+pub fn load_registers(ok: bool, words: u8, running: u8, stream: &[u8]) -> Loaded
+    requires { ⌜ (ok ≡ true → isCard words ≡ true) ⌝ }
+    ensures { λ r. ⌜ r ≡ loadedOf (loadOn ok words (flagged running) (now (stream .entry))) ⌝ }
 {
-    let table = state.table;
-    let registers = state.registers;
-    if !sound_mappings(state.words, state.memory_length, table)
-        || !registers::sound(state.words, registers)
-    {
+    if !ok {
         let none = registers::blank();
         return Loaded {
             verdict: Verdict::Fail(answer::BAD_BENCH, 0),
             registers: none,
         };
     }
-    parts::load(state.words, state.running == RUNNING, stream)
-}
-
-// Loads a stream of parts.
-pub fn load_parts(state: State, stream: &[u8]) -> Reply
-    ensures { λ r. ⌜ MeetsAlone loadParts (now (stream .entry)) state (told (r .answer)) (now (stream .entry)) (r .state) ⌝ }
-{
-    let loaded = load_registers(state, stream);
-    let verdict = loaded.verdict;
-    match verdict {
-        Verdict::Fail(code, place) => Reply {
-            answer: Answer::Refused(code, place),
-            state,
-        },
-        Verdict::Pass => {
-            let registers = loaded.registers;
-            Reply {
-                answer: Answer::Done(0),
-                state: with_registers(state, registers),
-            }
-        }
-    }
+    parts::load(words, running == RUNNING, stream)
 }
 
 // Saves the registers as a stream of parts at the buffer's start; its length is the result.
-pub fn save_parts(state: State, buf: &mut [u8]) -> Answer
-    ensures { λ r. ⌜ MeetsAlone saveParts (now (buf .entry)) state (told r) (now (buf .exit)) state ⌝ }
+pub fn save_parts(ok: bool, words: u8, running: u8, registers: Registers, buf: &mut [u8]) -> Answer
+    requires { ⌜ (ok ≡ true → isCard words ≡ true) ⌝ }
+    ensures { λ r. ⌜ ((s : StateRecord) (rs : List MappingRecord) → ok ≡ soundMachine (length rs) (machineOf s rs) → words ≡ s .words → running ≡ s .running → registers ≡ s .registers → MeetsAlone saveParts (now (buf .entry)) s rs (told r) (now (buf .exit)) s rs) ⌝ }
 {
-    let table = state.table;
-    let registers = state.registers;
-    if !sound_mappings(state.words, state.memory_length, table)
-        || !registers::sound(state.words, registers)
-    {
+    if !ok {
         return Answer::Refused(answer::BAD_BENCH, 0);
     }
-    let verdict = parts::check_save(state.words, registers, state.running == RUNNING, buf.len());
+    let verdict = parts::check_save(words, registers, running == RUNNING, buf.len());
     match verdict {
         Verdict::Fail(code, place) => Answer::Refused(code, place),
         Verdict::Pass => {
-            let n = parts::save(state.words, registers, buf);
+            let n = parts::save(words, registers, buf);
             Answer::Done(n as u64)
         }
     }
 }
 
-fn with_registers(state: State, registers: Registers) -> State
-    ensures { λ r. ⌜ r ≡ withRegistersIn registers state ⌝ }
+// The byte `running` that stop or start leaves: they set the running state, whatever it was.
+pub fn run_byte(ok: bool, was: u8, running: bool) -> u8
+    ensures { λ r. ⌜ r ≡ pick ok (flagByte running) was ⌝ }
 {
-    let mut next = state;
-    next.registers = registers;
-    next
-}
-
-fn with_running(state: State, running: bool) -> State
-    ensures { λ r. ⌜ r ≡ withRunningIn (flagByte running) state ⌝ }
-{
-    let mut next = state;
-    next.running = running as u8;
-    next
-}
-
-// Stop and start set the running state, whatever it was.
-fn set_running(state: State, running: bool) -> Reply
-    ensures { λ r. ⌜ MeetsAlone (runCall running) [] state (told (r .answer)) [] (r .state) ⌝ }
-{
-    if !sound(state) {
-        return Reply {
-            answer: Answer::Refused(answer::BAD_BENCH, 0),
-            state,
-        };
+    if ok {
+        return running as u8;
     }
-    Reply {
-        answer: Answer::Done(0),
-        state: with_running(state, running),
-    }
-}
-
-pub fn stop(state: State) -> Reply
-    ensures { λ r. ⌜ MeetsAlone calls.stop [] state (told (r .answer)) [] (r .state) ⌝ }
-{
-    set_running(state, false)
-}
-
-pub fn start(state: State) -> Reply
-    ensures { λ r. ⌜ MeetsAlone calls.start [] state (told (r .answer)) [] (r .state) ⌝ }
-{
-    set_running(state, true)
+    was
 }

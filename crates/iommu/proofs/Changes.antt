@@ -5,7 +5,7 @@ use mathlib.Core.Path.{_≡_, refl, sym, _∙_, ap}
 use mathlib.Core.Bool.{Bool, true, false}
 use mathlib.Core.List.{List, [], _∷_}
 use lib.Dec.{ltb}
-use lib.ListN.{length}
+use lib.ListN.{length, length-append, length-drop}
 use lib.Seq.{take-append-seam}
 use borrow.Author.Tests.{ltb-true, ltb-false, lt-ltb, leb-true, eqb-false}
 use Rattle.answer.specs.Tests.{_and_, pick}
@@ -15,21 +15,26 @@ use Rattle.answer.proofs.Checks.{then-pass, when-pass, unless-pass}
 use Rattle.address.specs.Address.{deviceLimit, memoryLimit, inDeviceRange}
 use Rattle.address.specs.declared.DeviceAddress.{DeviceAddress}
 use Rattle.iommu.specs.declared.Mapping.{Mapping}
-use Rattle.iommu.specs.declared.Table.{Table}
-use Rattle.iommu.specs.Table.{capacity, end, soundMapping, soundMappingsFrom, soundTable, touches, anyOf, overlaps, insert, without, inUse, holding, Sound}
+use Rattle.iommu.specs.Table.{Table, tableOf, capacity, end, soundMapping, soundMappingsFrom, soundTable, touches, anyOf, overlaps, insert, without, inUse, holding, Sound}
 use Rattle.iommu.specs.Requests.{mapChecks, unmapChecks}
 use Rattle.iommu.proofs.Soundness.{mapping-facts, sound-split, sound-join, sound-wider}
 use Rattle.iommu.proofs.Passes.{in-use-length}
 
--- ---- the table that holds a list
+-- ---- the records that hold a list
 
-pub in-use-holding : (ms : List Mapping) (t : Table) → inUse (holding ms t) ≡ ms
-unfolding inUse holding
-in-use-holding ms t = take-append-seam ms _
+module _ (ms records : List Mapping) where
+  pub in-use-holding : inUse (tableOf (holding ms records) (length ms)) ≡ ms
+  unfolding inUse holding
+  in-use-holding = take-append-seam ms _
 
-pub holding-sound : (ms : List Mapping) (t : Table) → length ms ≤ capacity → soundTable memoryLimit ms ≡ true → Sound (holding ms t)
-unfolding holding
-holding-sound ms t few sound = record { few = few; table = rw (in-use-holding ms t) sound }
+  -- where they have room for it there are as many as before
+  module _ (room : length ms ≤ length records) where
+    pub length-holding : length (holding ms records) ≡ length records
+    unfolding holding
+    length-holding = rw (length-append, length-drop) (omega arith)
+
+    pub holding-sound : length ms ≤ capacity → soundTable memoryLimit ms ≡ true → Sound (tableOf (holding ms records) (length ms))
+    holding-sound few sound = record { few = few; fits = rw length-holding room; table = rw in-use-holding sound }
 
 -- ---- lengths
 
@@ -120,14 +125,14 @@ insert-sound size m ms e h o = insert-from size 0 m ms e (omega arith) h o
 
 -- ---- what the checks of a request have shown
 
-pub record Mappable (size : ℕ) (ms : List Mapping) (m : Mapping) : Type 0 where
+pub record Mappable (size room : ℕ) (ms : List Mapping) (m : Mapping) : Type 0 where
   pub sound : soundMapping size m ≡ true
   pub free : overlaps (m .device) (m .size) ms ≡ false
-  pub room : length ms < capacity
+  pub fits : length ms < room
 
-pub map-passed : (size : ℕ) (ms : List Mapping) (m : Mapping) → mapChecks size ms m ≡ Pass → Mappable size ms m
+pub map-passed : (size room : ℕ) (ms : List Mapping) (m : Mapping) → mapChecks size room ms m ≡ Pass → Mappable size room ms m
 unfolding mapChecks soundMapping
-map-passed size ms m e =
+map-passed size room ms m e =
     let flags = then-pass _ _ e in
     let empty = then-pass _ _ (flags .1) in
     let unaligned = then-pass _ _ (empty .1) in
@@ -137,16 +142,16 @@ map-passed size ms m e =
     record {
       sound = and-made _ _ (and-made _ _ (and-made _ _ (unless-pass _ _ (unaligned .0)) (lt-ltb 0 (m .size) (omega arith))) (unless-pass _ _ (flags .0))) (unless-pass _ _ (range .0));
       free = when-pass _ _ (overlap .0);
-      room = ltb-true _ _ (unless-pass _ _ (overlap .1));
+      fits = ltb-true _ _ (unless-pass _ _ (overlap .1));
     }
 
 -- what `insert` asks
-pub map-room : (size : ℕ) (t : Table) (m : Mapping) → t .count ≤ length (t .entries) → mapChecks size (inUse t) m ≡ Pass → t .count < capacity
-map-room size t m fits e =
-    let r = map-passed size (inUse t) m e .room in
+pub map-room : (size room : ℕ) (t : Table) (m : Mapping) → t .count ≤ length (t .entries) → mapChecks size room (inUse t) m ≡ Pass → t .count < room
+map-room size room t m fits e =
+    let r = map-passed size room (inUse t) m e .fits in
     omega (arith, in-use-length t fits)
 
--- what `remove` asks
+-- what the end of the range asks
 pub unmap-range : (ms : List Mapping) (flags : ℕ) (d : DeviceAddress) (n : ℕ) → unmapChecks ms flags d n ≡ Pass → d .0 + n ≤ deviceLimit
 unfolding unmapChecks inDeviceRange
 unmap-range ms flags d n e =

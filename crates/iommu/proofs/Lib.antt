@@ -1,6 +1,13 @@
 pub mod Soundness
 pub mod Passes
-pub mod Places
-pub mod Compaction
 pub mod Changes
 pub mod Lookup
+pub mod Order
+pub mod Requests
+pub mod Halving
+pub mod Lows
+pub mod Places
+pub mod Closing
+pub mod Sums
+pub mod Records
+pub mod Contracts

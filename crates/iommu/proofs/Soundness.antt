@@ -12,8 +12,7 @@ use Rattle.answer.specs.Tests.{_and_, pick}
 use Rattle.answer.proofs.Tests.{and-true, and-made}
 use Rattle.address.specs.Address.{deviceLimit, memoryLimit, inDeviceRange, inMemoryRange}
 use Rattle.iommu.specs.declared.Mapping.{Mapping}
-use Rattle.iommu.specs.declared.Table.{Table}
-use Rattle.iommu.specs.Table.{capacity, end, validRights, alignedMapping, inRange, soundMapping, soundMappingsFrom, soundTable, totalSize, inUse, Sound}
+use Rattle.iommu.specs.Table.{Table, capacity, end, validRights, alignedMapping, inRange, soundMapping, soundMappingsFrom, soundTable, totalSize, inUse, Sound}
 
 -- ---- one mapping
 
@@ -73,12 +72,15 @@ sound-wider size size′ low low′ (m ∷ ms) longer lower e =
     (facts-mapping size′ m (record { aligned = f .aligned; filled = f .filled; some = f .some; few = f .few; below = f .below; within = omega arith }))
     (sound-wider size size′ (end m) (end m) ms longer (omega arith) (p .2))
 
--- the table is sound for every function below, where it is sound for a memory of the given length
-pub sound-table : (t : Table) (size : ℕ) → (leb (t .count) capacity and soundTable size (inUse t)) ≡ true → size ≤ memoryLimit → Sound t
+-- the table is sound for every function below, where `sound` says so of it and of a memory of the given length
+pub sound-table : (t : Table) (size : ℕ) → (leb (length (t .entries)) capacity and leb (t .count) (length (t .entries)) and soundTable size (inUse t)) ≡ true → size ≤ memoryLimit → Sound t
 unfolding soundTable
 sound-table t size e h =
     let p = and-true _ _ e in
-    record { few = leb-true _ _ (p .0); table = sound-wider size memoryLimit 0 0 (inUse t) h (omega arith) (p .1) }
+    let q = and-true _ _ (p .0) in
+    let room = leb-true (length (t .entries)) capacity (q .0) in
+    let fits = leb-true (t .count) (length (t .entries)) (q .1) in
+    record { few = omega (arith, room, fits); fits = fits; table = sound-wider size memoryLimit 0 0 (inUse t) h (omega arith) (p .1) }
 
 -- each of its mappings is sound
 pub sound-at : (size low : ℕ) (ms : List Mapping) (i : ℕ) (blank : Mapping) → soundMappingsFrom size low ms ≡ true → i < length ms → Facts size (getD ms i blank)

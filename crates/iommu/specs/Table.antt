@@ -1,22 +1,25 @@
--- The mapping table, as the list of its entries in use (rule 1.8): what look-up, map, unmap and soundness say of it.
-use Prim.Native.Nat.{ℕ, _+_, _-_, _/_, _%_, _≤_}
+-- The mapping table, as the list of its records in use (rule 1.8): what look-up, map, unmap and soundness say of it.
+use Prim.Native.Nat.{ℕ, suc, _+_, _-_, _/_, _%_, _≤_}
 use mathlib.Core.Bool.{Bool, true, false, not}
 use mathlib.Core.Path.{_≡_}
 use mathlib.Core.List.{List, [], _∷_, _++_}
 use lib.Dec.{leb, ltb, eqb}
-use lib.ListN.{length, take, drop}
+use lib.ListN.{length, take, drop, getD}
 use Rattle.answer.specs.Tests.{_and_, _or_, pick}
-use Rattle.address.specs.Address.{deviceLimit, memoryLimit, memoryOffset, aligned, inDeviceRange, inMemoryRange}
+use Rattle.address.specs.Address.{memoryLimit, memoryOffset, aligned, inDeviceRange, inMemoryRange}
 use Rattle.address.specs.declared.DeviceAddress.{DeviceAddress}
 use Rattle.address.specs.declared.MemoryAddress.{MemoryAddress}
 use Rattle.iommu.specs.declared.Mapping.{Mapping}
-use Rattle.iommu.specs.declared.Table.{Table}
 use Rattle.iommu.specs.declared.Translation.{Translation}
 use Rattle.iommu.specs.declared.Translation.the-variants.{At, Nowhere}
 
--- rule 1.8: how many mappings a table holds at most
+-- rule 1.8: how many records are lent at most
 abbrev pub capacity : ℕ
-capacity = 64
+capacity = 4096
+
+-- what a list of mappings reads as past its end
+abbrev pub blank : Mapping
+blank = record { device = record { 0 = 0 }; memory = record { 0 = 0 }; size = 0; rights = 0 }
 
 -- one past the last device address of a mapping
 abbrev pub end : Mapping → ℕ
@@ -31,6 +34,10 @@ holds m d = leb (m .device .0) (d .0) and ltb (d .0) (end m)
 -- rule 4.1: the memory address as far behind the mapping's as the device address is behind the mapping's
 unfoldable pub addressIn : Mapping → DeviceAddress → MemoryAddress
 addressIn m d = memoryOffset (m .memory) (d .0 - m .device .0)
+
+-- rule 4.1: what one mapping says of a device address: where it lies in memory, and with which rights
+unfoldable pub shownBy : Mapping → DeviceAddress → Translation
+shownBy m d = pick (holds m d) (At (addressIn m d) (m .rights)) Nowhere
 
 -- rule 4.1: where a device address lies in memory, and with which rights
 unfoldable pub translate : List Mapping → DeviceAddress → Translation
@@ -84,11 +91,6 @@ touches d n m = ltb (d .0) (end m) and ltb (m .device .0) (d .0 + n)
 unfoldable pub inside : DeviceAddress → ℕ → Mapping → Bool
 inside d n m = leb (d .0) (m .device .0) and leb (end m) (d .0 + n)
 
--- what the tests above may ask where they are made: neither sum leaves 64 bits, so that what code adds is the whole number (rule 3.21)
-pub record Bounded (d : DeviceAddress) (n : ℕ) (m : Mapping) : Type 0 where
-  pub mapping : end m ≤ deviceLimit
-  pub range : d .0 + n ≤ deviceLimit
-
 -- the test holds of some mapping
 unfoldable pub anyOf : (Mapping → Bool) → List Mapping → Bool
 anyOf test [] = false
@@ -120,17 +122,57 @@ unfoldable pub totalSize : (Mapping → Bool) → List Mapping → ℕ
 totalSize test [] = 0
 totalSize test (m ∷ ms) = pick (test m) (m .size) 0 + totalSize test ms
 
--- ---- the code's table
+-- rule 3.18: with a mapping at a place
+unfoldable pub insertedAt : ℕ → Mapping → List Mapping → List Mapping
+insertedAt at m ms = take at ms ++ m ∷ drop at ms
 
--- rule 1.13: the mappings of a table are its entries in use; what stands past the count means nothing
+-- rule 3.20: without those from one place up to but not including another, and the sum of their sizes
+unfoldable pub withoutRun : ℕ → ℕ → List Mapping → List Mapping
+withoutRun from to ms = take from ms ++ drop to ms
+
+unfoldable pub sizesBetween : ℕ → ℕ → List Mapping → ℕ
+sizesBetween from to ms = totalSize (λ m. true) (take (to - from) (drop from ms))
+
+-- ---- the records that are lent
+
+-- the records, and how many of them are in use
+pub record Table : Type 0 where
+  pub entries : List Mapping
+  pub count : ℕ
+
+abbrev pub tableOf : List Mapping → ℕ → Table
+tableOf records count = record { entries = records; count = count }
+
+-- rules 1.13, 1.17: the mappings of a table are its records in use; what stands past the count means nothing
 unfoldable pub inUse : Table → List Mapping
 inUse t = take (t .count) (t .entries)
 
--- rule 1.13: the table with other mappings in use; entries past the new count keep what they held
-unfoldable pub holding : List Mapping → Table → Table
-holding ms t = record { entries = ms ++ drop (length ms) (t .entries); count = length ms }
+-- rules 1.17, 7.24: the records with other mappings in use; those past the new count keep what they held
+unfoldable pub holding : List Mapping → List Mapping → List Mapping
+holding ms records = ms ++ drop (length ms) records
 
--- what functions below refusal 1 may ask of a table: no sum over its entries in use leaves 64 bits
+-- what functions below refusal 1 may ask of a table: no sum over its records in use leaves 64 bits
 pub record Sound (t : Table) : Type 0 where
   pub few : t .count ≤ capacity
+  pub fits : t .count ≤ length (t .entries)
   pub table : soundTable memoryLimit (inUse t) ≡ true
+
+-- ---- what passes over the records are stated with
+
+-- where the record behind `m` may begin; past every device address where `m` is not sound, or begins below `low`
+unfoldable pub nextLow : ℕ → ℕ → Mapping → ℕ
+nextLow size low m = pick (leb low (m .device .0) and soundMapping size m) (end m) 18446744073709551615
+
+-- how many mappings, of those in front, end at a device address or before it
+unfoldable pub firstPast : DeviceAddress → List Mapping → ℕ
+firstPast d [] = 0
+firstPast d (m ∷ ms) = pick (leb (end m) (d .0)) (suc (firstPast d ms)) 0
+
+-- `at` is the place of the first mapping that ends past a device address, and `held` says whether it holds it
+pub record Placed (ms : List Mapping) (d : DeviceAddress) (at : ℕ) (held : Bool) : Type 0 where
+  pub place : at ≡ firstPast d ms
+  pub holder : held ≡ holds (getD ms at blank) d
+
+-- a mapping begins before a device address that it holds
+unfoldable pub sticksOut : Mapping → DeviceAddress → Bool
+sticksOut m d = ltb (m .device .0) (d .0) and holds m d

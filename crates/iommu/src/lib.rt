@@ -1,20 +1,22 @@
-// The mapping table of an IOMMU.
+// The mapping table of an IOMMU: records that the caller lends, of which the first `count` are in use, by rising device address. The others
+// are stale: they are not looked at, and change only where they are put to use.
 ghost use mathlib.Core.Path.{_≡_};
-ghost use mathlib.Core.Bool.{not};
-ghost use mathlib.Core.List.{_∷_, _++_};
-ghost use Prim.Native.Nat.{_+_, _≤_, _<_};
-ghost use lib.Dec.{leb};
-ghost use lib.ListN.{take, drop};
+ghost use mathlib.Core.Bool.{true, not};
+ghost use mathlib.Core.List.{List};
+ghost use Prim.Native.Nat.{_+_, _-_, _≤_, _<_};
+ghost use lib.Dec.{leb, ltb};
+ghost use lib.ListN.{length, getD};
 ghost use Rattle.answer.specs.Tests.{_and_};
-ghost use Rattle.address.specs.Address.{deviceLimit, aligned};
-ghost use Rattle.iommu.specs.Table.{capacity, holds as held, translate as translated, validRights, alignedMapping, inRange, soundMapping, soundTable, touches as touched, inside as within, overlaps as overlapped, cuts as cut, insert as inserted, without, totalSize, inUse, holding, Sound, Bounded};
-ghost use Rattle.iommu.specs.Requests.{mapChecks, unmapChecks};
+ghost use Rattle.address.specs.Address.{deviceLimit, memoryLimit, aligned};
+ghost use Rattle.iommu.specs.Table.{capacity, blank, holds as held, validRights, alignedMapping, inRange, soundMapping, soundTable, nextLow, shownBy, sticksOut, tableOf, inUse, holding, insertedAt, withoutRun, sizesBetween, Sound, Placed};
+ghost use Rattle.iommu.specs.Halving.{searchOf, middleOf, probed, searched, Open};
+ghost use Rattle.iommu.specs.Requests.{mapChecks, endOf, refusedUnmap, removingRun, Unmaps};
 use address::DeviceAddress;
 use address::MemoryAddress;
 use answer::Verdict;
 
-// How many mappings a table holds.
-pub const CAPACITY: usize = 64;
+// The most records that may be lent.
+pub const CAPACITY: usize = 4096;
 
 // A mapping shows `size` bytes of memory from `memory` on at the device addresses from `device` on. Its rights are READ 1, WRITE 2.
 #[repr(C)]
@@ -25,23 +27,26 @@ pub struct Mapping {
     pub rights: u32,
 }
 
-// The table: the first `count` entries are in use, by rising device address. The others mean nothing.
-#[repr(C)]
-pub struct Table {
-    pub entries: [Mapping; CAPACITY],
-    pub count: usize,
-}
-
 // What stands at a device address: where its byte lies in memory and with which rights, or no mapping.
 pub enum Translation {
     At(MemoryAddress, u32),
     Nowhere,
 }
 
-// A table after a removal, and how many device addresses lost their mapping.
-pub struct Removed {
-    pub table: Table,
-    pub size: u64,
+// A search by halving for a device address: the places from `lo` up to but not including `hi` are left to it, and it has looked at
+// `probes` of them. At its end both are the place of the first record that ends past the address, and `held` says whether that holds it.
+pub struct Search {
+    pub lo: usize,
+    pub hi: usize,
+    pub probes: u64,
+    pub held: bool,
+}
+
+// What an unmap comes to: its checks, and the places of the first record that goes and of the first behind it that stays.
+pub struct Unmap {
+    pub verdict: Verdict,
+    pub from: usize,
+    pub to: usize,
 }
 
 // READ, WRITE or both, and no other bit.
@@ -58,11 +63,12 @@ fn aligned_mapping(m: Mapping) -> bool
     address::all_aligned(m.memory.0, m.device.0, m.size)
 }
 
-// Whether a mapping ends at 2^48 or below, and inside a memory of `size` bytes.
+// Whether a mapping ends at 2^48 or below, and inside a memory of `size` bytes. Memory is asked first: a size that fits it fits the other
+// range by itself, and the compiler leaves that test out.
 fn in_range(size: u64, m: Mapping) -> bool
     ensures { λ r. ⌜ r ≡ inRange size m ⌝ }
 {
-    address::in_device_range(m.device, m.size) && address::in_memory_range(size, m.memory, m.size)
+    address::in_memory_range(size, m.memory, m.size) && address::in_device_range(m.device, m.size)
 }
 
 // Whether a mapping passes the checks that the map request makes of it alone.
@@ -81,30 +87,64 @@ fn sound_mapping(m: Mapping, size: u64) -> bool
     in_range(size, m)
 }
 
-// Whether a table may be trusted with a memory of `size` bytes. It is asked of any values at all, so the count is tested before an entry is read.
-pub fn sound(table: Table, size: u64) -> bool
-    ensures { λ r. ⌜ r ≡ (leb (table .count) capacity and soundTable size (inUse table)) ⌝ }
+// Where the record behind `m` may begin, if `m` is sound and begins at `low` or later; else a number past every device address.
+fn next_low(low: u64, m: Mapping, size: u64) -> u64
+    ensures { λ r. ⌜ r ≡ nextLow size low m ⌝ }
 {
-    let count = table.count;
-    if count == 0 {
-        return true;
+    if m.device.0 < low {
+        return 0xffffffffffffffff;
     }
-    if CAPACITY < count {
+    if !sound_mapping(m, size) {
+        return 0xffffffffffffffff;
+    }
+    m.device.0 + m.size
+}
+
+// What stands past the records in use.
+fn blank_mapping() -> Mapping
+    ensures { λ r. ⌜ r ≡ blank ⌝ }
+{
+    Mapping {
+        device: DeviceAddress(0),
+        memory: MemoryAddress(0),
+        size: 0,
+        rights: 0,
+    }
+}
+
+// The record in use at a place; a blank one behind the last.
+pub fn get(records: &[Mapping], count: usize, i: usize) -> Mapping
+    requires { ⌜ count ≤ length (now records) ⌝ }
+    ensures { λ r. ⌜ r ≡ getD (inUse (tableOf (now (records .entry)) count)) i blank ⌝ }
+{
+    if i < count {
+        return records[i];
+    }
+    blank_mapping()
+}
+
+// Whether that many records are too many to lend, or too few for a count of records in use.
+fn cannot_hold(room: usize, count: usize) -> bool
+    ensures { λ r. ⌜ r ≡ not (leb room capacity and leb count room) ⌝ }
+{
+    CAPACITY < room || room < count
+}
+
+// Whether the records in use may be trusted with a memory of `size` bytes. It is asked of any values at all, so the count is tested before
+// a record is read.
+pub fn sound(records: &[Mapping], count: usize, size: u64) -> bool
+    ensures { λ r. ⌜ r ≡ (leb (length (now (records .entry))) capacity and leb count (length (now (records .entry))) and soundTable size (inUse (tableOf (now (records .entry)) count))) ⌝ }
+{
+    if cannot_hold(records.len(), count) {
         return false;
     }
-    // Entries are indexed in a copy of the table, and one that holds nothing is not copied.
-    let held = table;
     let mut low: u64 = 0;
     let mut i: usize = 0;
     while i < count {
-        let m = held.entries[i];
-        if m.device.0 < low {
+        low = next_low(low, get(records, count, i), size);
+        if address::DEVICE_LIMIT < low {
             return false;
         }
-        if !sound_mapping(m, size) {
-            return false;
-        }
-        low = m.device.0 + m.size;
         i += 1;
     }
     true
@@ -117,85 +157,106 @@ fn holds(m: Mapping, d: DeviceAddress) -> bool
     m.device.0 <= d.0 && d.0 - m.device.0 < m.size
 }
 
-// Where a device address lies.
-pub fn translate(table: Table, d: DeviceAddress) -> Translation
-    requires { ⌜ Sound table ⌝ }
-    ensures { λ r. ⌜ r ≡ translated (inUse table) d ⌝ }
+// A search that has looked at nothing.
+fn whole(count: usize) -> Search
+    ensures { λ r. ⌜ r ≡ searchOf count ⌝ }
 {
-    let count = table.count;
-    let mut i: usize = 0;
-    while i < count {
-        let m = table.entries[i];
-        if holds(m, d) {
-            return Translation::At(MemoryAddress(m.memory.0 + (d.0 - m.device.0)), m.rights);
-        }
-        i += 1;
+    Search {
+        lo: 0,
+        hi: count,
+        probes: 0,
+        held: false,
+    }
+}
+
+// Whether a search has places left.
+fn searching(s: Search) -> bool
+    ensures { λ r. ⌜ r ≡ ltb (s .lo) (s .hi) ⌝ }
+{
+    s.lo < s.hi
+}
+
+// The place that a search looks at next.
+fn middle(s: Search) -> usize
+    requires { ⌜ Open s ⌝ }
+    ensures { λ r. ⌜ r ≡ middleOf s ⌝ }
+{
+    (s.lo + s.hi) / 2
+}
+
+// A search that has looked at the record in its middle: it stops there, or goes on below or above that place.
+fn probe(s: Search, m: Mapping, d: DeviceAddress) -> Search
+    requires { ⌜ Open s ⌝ }
+    ensures { λ r. ⌜ r ≡ probed m d s ⌝ }
+{
+    let at = middle(s);
+    let probes = s.probes + 1;
+    if holds(m, d) {
+        return Search {
+            lo: at,
+            hi: at,
+            probes,
+            held: true,
+        };
+    }
+    if d.0 < m.device.0 {
+        return Search {
+            lo: s.lo,
+            hi: at,
+            probes,
+            held: false,
+        };
+    }
+    Search {
+        lo: at + 1,
+        hi: s.hi,
+        probes,
+        held: false,
+    }
+}
+
+// The place of a device address among the records in use, by halving.
+pub fn find(records: &[Mapping], count: usize, d: DeviceAddress) -> Search
+    requires { ⌜ Sound (tableOf (now records) count) ⌝ }
+    ensures { λ r. ⌜ (r ≡ searched count (inUse (tableOf (now (records .entry)) count)) d (searchOf count)) × Placed (inUse (tableOf (now (records .entry)) count)) d (r .lo) (r .held) ⌝ }
+{
+    let mut s = whole(count);
+    while searching(s) {
+        s = probe(s, get(records, count, middle(s)), d);
+    }
+    s
+}
+
+// What a mapping says of a device address.
+pub fn shown_by(m: Mapping, d: DeviceAddress) -> Translation
+    requires { ⌜ (held m d ≡ true → inRange memoryLimit m ≡ true) ⌝ }
+    ensures { λ r. ⌜ r ≡ shownBy m d ⌝ }
+{
+    if holds(m, d) {
+        return Translation::At(MemoryAddress(m.memory.0 + (d.0 - m.device.0)), m.rights);
     }
     Translation::Nowhere
 }
 
-// Whether a mapping and the `n` device addresses from `d` on share an address. Neither sum leaves 64 bits.
-fn touches(d: DeviceAddress, n: u64, m: Mapping) -> bool
-    requires { ⌜ Bounded d n m ⌝ }
-    ensures { λ r. ⌜ r ≡ touched d n m ⌝ }
+// Whether the first record that ends past a mapping's start, at place `at` of `count`, shares an address with the mapping.
+fn overlaps(m: Mapping, count: usize, at: usize, next: Mapping) -> bool
+    requires { ⌜ m .device .0 + m .size ≤ deviceLimit ⌝ }
+    ensures { λ r. ⌜ r ≡ (ltb at count and ltb (next .device .0) (m .device .0 + m .size)) ⌝ }
 {
-    d.0 < m.device.0 + m.size && m.device.0 < d.0 + n
+    at < count && next.device.0 < m.device.0 + m.size
 }
 
-// Whether a mapping lies wholly inside the `n` device addresses from `d` on.
-fn inside(d: DeviceAddress, n: u64, m: Mapping) -> bool
-    requires { ⌜ Bounded d n m ⌝ }
-    ensures { λ r. ⌜ r ≡ within d n m ⌝ }
-{
-    d.0 <= m.device.0 && m.device.0 + m.size <= d.0 + n
-}
-
-// Whether the `n` device addresses from `d` on hold some but not all of a mapping.
-fn cuts_one(d: DeviceAddress, n: u64, m: Mapping) -> bool
-    requires { ⌜ Bounded d n m ⌝ }
-    ensures { λ r. ⌜ r ≡ (touched d n m and not (within d n m)) ⌝ }
-{
-    touches(d, n, m) && !inside(d, n, m)
-}
-
-// Whether a held mapping shares one of the `n` device addresses from `d` on.
-fn overlaps(table: Table, d: DeviceAddress, n: u64) -> bool
-    requires { ⌜ (Sound table) × (d .0 + n ≤ deviceLimit) ⌝ }
-    ensures { λ r. ⌜ r ≡ overlapped d n (inUse table) ⌝ }
-{
-    let count = table.count;
-    let mut i: usize = 0;
-    while i < count {
-        let m = table.entries[i];
-        if touches(d, n, m) {
-            return true;
-        }
-        i += 1;
-    }
-    false
-}
-
-// Whether the `n` device addresses from `d` on hold some but not all of a held mapping.
-fn cuts(table: Table, d: DeviceAddress, n: u64) -> bool
-    requires { ⌜ (Sound table) × (d .0 + n ≤ deviceLimit) ⌝ }
-    ensures { λ r. ⌜ r ≡ cut d n (inUse table) ⌝ }
-{
-    let count = table.count;
-    let mut i: usize = 0;
-    while i < count {
-        let m = table.entries[i];
-        if cuts_one(d, n, m) {
-            return true;
-        }
-        i += 1;
-    }
-    false
-}
-
-// The checks of the map request, for a memory of `size` bytes.
-pub fn check_map(table: Table, size: u64, m: Mapping) -> Verdict
-    requires { ⌜ Sound table ⌝ }
-    ensures { λ r. ⌜ r ≡ mapChecks size (inUse table) m ⌝ }
+// The checks of the map request, for a memory of `size` bytes and a table of `room` records of which `count` are in use. `next` is the
+// record at the place that was found for the mapping's start.
+pub fn check_map(
+    m: Mapping,
+    size: u64,
+    room: usize,
+    count: usize,
+    found: Search,
+    next: Mapping,
+) -> Verdict
+    ensures { λ r. ⌜ ((ms : List Mapping) → soundTable memoryLimit ms ≡ true → length ms ≡ count → Placed ms (m .device) (found .lo) (found .held) → next ≡ getD ms (found .lo) blank → r ≡ mapChecks size room ms m) ⌝ }
 {
     if !valid_rights(m.rights) {
         return Verdict::Fail(answer::FLAGS, 0);
@@ -209,10 +270,10 @@ pub fn check_map(table: Table, size: u64, m: Mapping) -> Verdict
     if !in_range(size, m) {
         return Verdict::Fail(answer::RANGE, 0);
     }
-    if overlaps(table, m.device, m.size) {
+    if overlaps(m, count, found.lo, next) {
         return Verdict::Fail(answer::OVERLAP, 0);
     }
-    if CAPACITY <= table.count {
+    if room <= count {
         return Verdict::Fail(answer::NO_ROOM, 0);
     }
     Verdict::Pass
@@ -225,90 +286,134 @@ fn aligned_range(d: DeviceAddress, n: u64) -> bool
     address::aligned(d.0) && address::aligned(n)
 }
 
-// The checks of the unmap request.
-pub fn check_unmap(table: Table, flags: u32, d: DeviceAddress, n: u64) -> Verdict
-    requires { ⌜ Sound table ⌝ }
-    ensures { λ r. ⌜ r ≡ unmapChecks (inUse table) flags d n ⌝ }
+// One past the last of the `n` device addresses from `d` on; of a range past 2^48, which is refused, its start.
+pub fn end_of(d: DeviceAddress, n: u64) -> DeviceAddress
+    ensures { λ r. ⌜ r ≡ endOf d n ⌝ }
+{
+    if address::in_device_range(d, n) {
+        return DeviceAddress(d.0 + n);
+    }
+    d
+}
+
+// Whether a mapping begins before a device address that it holds.
+fn sticks_out(m: Mapping, d: DeviceAddress) -> bool
+    ensures { λ r. ⌜ r ≡ sticksOut m d ⌝ }
+{
+    m.device.0 < d.0 && holds(m, d)
+}
+
+fn refused_unmap(code: u32) -> Unmap
+    ensures { λ r. ⌜ r ≡ refusedUnmap code ⌝ }
+{
+    Unmap {
+        verdict: Verdict::Fail(code, 0),
+        from: 0,
+        to: 0,
+    }
+}
+
+// The records from place `from` up to but not including `to` go. Where none do, both are the count, so that none is moved.
+fn removing(count: usize, from: usize, to: usize) -> Unmap
+    ensures { λ r. ⌜ r ≡ removingRun count from to ⌝ }
+{
+    if from == to {
+        return Unmap {
+            verdict: Verdict::Pass,
+            from: count,
+            to: count,
+        };
+    }
+    Unmap {
+        verdict: Verdict::Pass,
+        from,
+        to,
+    }
+}
+
+// The checks of the unmap request, and the records that go: `first` and `last` are the places found for its range's two ends, and
+// `x` and `y` the records there.
+pub fn check_unmap(
+    flags: u32,
+    d: DeviceAddress,
+    n: u64,
+    count: usize,
+    first: Search,
+    x: Mapping,
+    last: Search,
+    y: Mapping,
+) -> Unmap
+    ensures { λ r. ⌜ ((ms : List Mapping) → soundTable memoryLimit ms ≡ true → length ms ≡ count → Placed ms d (first .lo) (first .held) → x ≡ getD ms (first .lo) blank → Placed ms (endOf d n) (last .lo) (last .held) → y ≡ getD ms (last .lo) blank → Unmaps ms flags d n r) ⌝ }
 {
     if flags != 0 {
-        return Verdict::Fail(answer::FLAGS, 0);
+        return refused_unmap(answer::FLAGS);
     }
     if n == 0 {
-        return Verdict::Fail(answer::EMPTY, 0);
+        return refused_unmap(answer::EMPTY);
     }
     if !aligned_range(d, n) {
-        return Verdict::Fail(answer::UNALIGNED, 0);
+        return refused_unmap(answer::UNALIGNED);
     }
     if !address::in_device_range(d, n) {
-        return Verdict::Fail(answer::RANGE, 0);
+        return refused_unmap(answer::RANGE);
     }
-    if cuts(table, d, n) {
-        return Verdict::Fail(answer::CUTS, 0);
+    if sticks_out(x, d) {
+        return refused_unmap(answer::CUTS);
     }
-    Verdict::Pass
+    if sticks_out(y, end_of(d, n)) {
+        return refused_unmap(answer::CUTS);
+    }
+    removing(count, first.lo, last.lo)
 }
 
-// The index at which a mapping goes: before the first entry that begins above it.
-fn place(table: Table, m: Mapping) -> usize
-    requires { ⌜ Sound table ⌝ }
-    ensures { λ r. ⌜ (r ≤ table .count) × (inserted m (inUse table) ≡ take r (inUse table) ++ m ∷ drop r (inUse table)) ⌝ }
+// Puts a mapping at a place among the records in use: those from there on move up by one.
+pub fn insert(records: &mut [Mapping], count: usize, at: usize, m: Mapping)
+    requires { ⌜ (at ≤ count) × (count < length (now records)) ⌝ }
+    ensures { λ _. ⌜ now (records .exit) ≡ holding (insertedAt at m (inUse (tableOf (now (records .entry)) count))) (now (records .entry)) ⌝ }
 {
-    let count = table.count;
-    let mut i: usize = 0;
-    while i < count {
-        let x = table.entries[i];
-        if m.device.0 < x.device.0 {
-            return i;
-        }
-        i += 1;
-    }
-    i
-}
-
-// The table with one more mapping: the entries from its place on move up by one.
-pub fn insert(table: Table, m: Mapping) -> Table
-    requires { ⌜ (Sound table) × (table .count < capacity) ⌝ }
-    ensures { λ r. ⌜ r ≡ holding (inserted m (inUse table)) table ⌝ }
-{
-    let at = place(table, m);
-    let count = table.count;
-    let mut entries = table.entries;
     let mut i = count;
     while at < i {
-        let x = entries[i - 1];
-        entries[i] = x;
+        let x = records[i - 1];
+        records[i] = x;
         i -= 1;
     }
-    entries[at] = m;
-    Table {
-        entries,
-        count: count + 1,
-    }
+    records[at] = m;
 }
 
-// The table without the mappings that lie wholly inside the `n` device addresses from `d` on, and the sum of their sizes.
-pub fn remove(table: Table, d: DeviceAddress, n: u64) -> Removed
-    requires { ⌜ (Sound table) × (d .0 + n ≤ deviceLimit) ⌝ }
-    ensures { λ r. ⌜ (r .table ≡ holding (without (within d n) (inUse table)) table) × (r .size ≡ totalSize (within d n) (inUse table)) ⌝ }
+// A sum of sizes, with one more.
+fn added(sum: u64, m: Mapping) -> u64
+    requires { ⌜ sum + m .size ≤ deviceLimit ⌝ }
+    ensures { λ r. ⌜ r ≡ sum + m .size ⌝ }
 {
-    let count = table.count;
-    let mut entries = table.entries;
-    let mut kept: usize = 0;
-    let mut size: u64 = 0;
-    let mut i: usize = 0;
-    while i < count {
-        let m = entries[i];
-        if inside(d, n, m) {
-            size += m.size;
-        } else {
-            entries[kept] = m;
-            kept += 1;
-        }
+    sum + m.size
+}
+
+// The sum of the sizes of the records from place `from` up to but not including `to`.
+pub fn sizes(records: &[Mapping], count: usize, from: usize, to: usize) -> u64
+    requires { ⌜ (Sound (tableOf (now records) count)) × (from ≤ to) × (to ≤ count) ⌝ }
+    ensures { λ r. ⌜ r ≡ sizesBetween from to (inUse (tableOf (now (records .entry)) count)) ⌝ }
+{
+    let mut sum: u64 = 0;
+    let mut i = from;
+    while i < to {
+        sum = added(sum, get(records, count, i));
         i += 1;
     }
-    let rest = Table {
-        entries,
-        count: kept,
-    };
-    Removed { table: rest, size }
+    sum
+}
+
+// Removes the records from place `from` up to but not including `to`: those behind them move down. Records past the new count keep what
+// they held.
+pub fn close(records: &mut [Mapping], count: usize, from: usize, to: usize)
+    requires { ⌜ (from ≤ to) × (to ≤ count) × (count ≤ length (now records)) ⌝ }
+    ensures { λ _. ⌜ now (records .exit) ≡ holding (withoutRun from to (inUse (tableOf (now (records .entry)) count))) (now (records .entry)) ⌝ }
+{
+    let mut k = from;
+    let mut i = to;
+    while i < count {
+        let m = records[i];
+        records[k] = m;
+        k += 1;
+        i += 1;
+    }
 }

@@ -4,11 +4,12 @@ use native.Mathlib.Nat.{not-suc-le-zero, add-zero, add-suc, suc-add, sub-zero, z
 use native.Mathlib.Numerals.{add-one}
 use native.Mathlib.Omega.{arith}
 use mathlib.Core.Path.{_≡_, refl, sym, _∙_, ap}
-use mathlib.Core.Bool.{Bool, true, false, false≢true}
+use mathlib.Core.Bool.{Bool, true, false, not, _&&_, _||_, false≢true, or-true, and-assoc}
+use mathlib.Core.Bool as bool
 use mathlib.Core.List.{List, [], _∷_, map}
 use mathlib.Core.Option.{Option, none, some}
 use lib.ListN.{length, getD, set, take, drop, replicate, drop-of-length-le}
-use lib.Seq.{sets, take-at, take-append-le, drop-cons, sets-eq}
+use lib.Seq.{sets, take-at, take-append-le, length-take-le, drop-cons, sets-eq}
 use mir.Val.{Val}
 use base.Fml.{Fml}
 use denote.Shadow.{shadow}
@@ -20,19 +21,19 @@ use Rattle.answer.specs.Tests.{_and_, pick, flagged, isSome}
 use Rattle.answer.specs.Checks.{_then_, _when_, _unless_, passes}
 use Rattle.answer.specs.declared.Verdict.{Verdict}
 use Rattle.answer.specs.declared.Verdict.the-variants.{Pass, Fail}
-use Rattle.answer.proofs.Tests.{and-true, and-made, and-false}
+use Rattle.answer.proofs.Tests.{and-true, and-made}
 use Rattle.answer.proofs.Arrays.{length-mapped}
 use Rattle.wire.specs.Field.{bytesOf}
-use Rattle.registers.specs.Rows.{statusRow, kindOf, sizeOf}
+use Rattle.registers.specs.Rows.{rowCount, statusRow, kindOf, sizeOf}
 use Rattle.registers.specs.Cards.{wordRoom}
 use Rattle.registers.specs.Values.{offered, contentChecks, valueChecks}
 use Rattle.registers.specs.File.{File, current, soundValuesFrom, soundValue, soundFile, registerValue, fileFrom, fileOf, registerOf, slotsOf, sizedFrom}
 use Rattle.registers.specs.declared.Register.{Register}
 use Rattle.registers.specs.declared.Registers.{Registers}
 use Rattle.registers.proofs.Registers.{the-type}
-use Rattle.registers.proofs.Rows.{features-size}
+use Rattle.registers.proofs.Rows.{size-most, features-size}
 use Rattle.registers.proofs.Features.{offered-length, offered-take, offered-exact}
-use Rattle.registers.proofs.Values.{value-size}
+use Rattle.registers.proofs.Values.{both-and, content-free, value-content, value-size}
 
 -- what a list of registers reads as past its end
 abbrev pub absent : Register
@@ -196,27 +197,52 @@ unfolding current
 current-sized w file zero v h e = ap length (some-same (sym e)) ∙ value-size w 0 false _ (offered-sound w)
 current-sized w file (suc k) v h e = let i : 1 + k ≡ suc k = omega arith in rw (← i) (sized-at w 1 file k v h e)
 
-module _ (w : ℕ) (registers : Registers) where
-  pub sound-status : flagged (getD (registers .slots) 5 absent .set) ≡ false → false ≡ soundFile w (fileOf w registers)
-  unfolding soundFile
-  sound-status e =
-      sym (and-false _ _ (ap isSome (current-kept w registers statusRow (omega arith)) ∙ set-is w statusRow _ ∙ e))
+-- a register that is not set is sound, and one that is set if its value meets the rule of its type
+pub sound-register : (w i : ℕ) (r : Register) → w ≤ wordRoom → i < rowCount → length (r .bytes) ≡ 32
+    → soundValue w i (registerValue w i r) ≡ (not (flagged (r .set)) || passes (contentChecks w (kindOf i) (take (sizeOf w i) (r .bytes))))
+unfolding soundValue
+sound-register w i r small h whole = go (flagged (r .set)) refl
+  where
+    go : (t : Bool) → flagged (r .set) ≡ t → soundValue w i (registerValue w i r) ≡ (not t || passes (contentChecks w (kindOf i) (take (sizeOf w i) (r .bytes))))
+    go true e = ap (soundValue w i) (value-set w i r e) ∙ ap passes (value-content w i _ (length-take-le _ _ (omega (arith, size-most w i small h))))
+    go false e = ap (soundValue w i) (value-unset w i r e)
 
-  pub sound-rest : flagged (getD (registers .slots) 5 absent .set) ≡ true → soundFile w (fileOf w registers) ≡ soundValuesFrom w 1 (fileFrom w 1 (registers .slots))
-  unfolding soundFile _and_ fileOf
-  sound-rest e = rw (ap isSome (current-kept w registers statusRow (omega arith)) ∙ set-is w statusRow _ ∙ e)
+-- common fields and status may hold anything
+pub sound-free : (w i : ℕ) (r : Register) → w ≤ wordRoom → length (r .bytes) ≡ 32 → 2 ≤ i → i < 7 → soundValue w i (registerValue w i r) ≡ true
+unfolding passes
+sound-free w i r small whole low high = sound-register w i r small (omega arith) whole ∙ rw (content-free w i (take (sizeOf w i) (r .bytes)) low high) (or-true (not (flagged (r .set))))
 
--- the loop that looks through the registers, at slot `i`
-module _ (w : ℕ) (l : List Register) (i : ℕ) where
-  pub sound-more : i < length l
-      → soundValuesFrom w (i + 1) (fileFrom w (i + 1) (drop i l))
-      ≡ (soundValue w (i + 1) (registerValue w (i + 1) (getD l i absent)) and soundValuesFrom w (i + 1 + 1) (fileFrom w (i + 1 + 1) (drop (i + 1) l)))
-  unfolding fileFrom
-  sound-more lt = simp add-one (rw (drop-cons l i absent lt) (sound-cons w _ _ _))
+-- whether the register of a slot is sound
+abbrev pub soundSlot : ℕ → List Register → ℕ → Bool
+soundSlot w l i = soundValue w (i + 1) (registerValue w (i + 1) (getD l i absent))
 
-  pub sound-end : length l ≤ i → soundValuesFrom w (i + 1) (fileFrom w (i + 1) (drop i l)) ≡ true
-  unfolding soundValuesFrom fileFrom
-  sound-end le = rw (drop-of-length-le l le)
+-- whether those of `n` slots from slot `i` on are
+unfoldable soundSlots : ℕ → List Register → ℕ → ℕ → Bool
+soundSlots w l i zero = true
+soundSlots w l i (suc n) = soundSlot w l i && soundSlots w l (i + 1) n
+
+sound-more : (w : ℕ) (l : List Register) (i : ℕ) → i < length l
+    → soundValuesFrom w (i + 1) (fileFrom w (i + 1) (drop i l)) ≡ (soundSlot w l i and soundValuesFrom w (i + 1 + 1) (fileFrom w (i + 1 + 1) (drop (i + 1) l)))
+unfolding fileFrom
+sound-more w l i lt = simp add-one (rw (drop-cons l i absent lt) (sound-cons w _ _ _))
+
+sound-slots : (w : ℕ) (l : List Register) (n i : ℕ) → i + n ≡ length l → soundValuesFrom w (i + 1) (fileFrom w (i + 1) (drop i l)) ≡ soundSlots w l i n
+unfolding soundSlots soundValuesFrom fileFrom
+sound-slots w l zero i e = let end : length l ≤ i = omega arith in rw (drop-of-length-le l end)
+sound-slots w l (suc n) i e =
+    sound-more w l i (omega arith) ∙ sym (both-and _ _) ∙ ap (λ (t : Bool). soundSlot w l i && t) (sound-slots w l n (i + 1) (omega arith))
+
+-- the code's tests: status is set, and the registers whose rows have a rule are sound
+pub sound-tested : (w : ℕ) (registers : Registers) → let l = registers .slots in
+    length l ≡ 14 → ((i : ℕ) → 1 ≤ i → i < 6 → soundSlot w l i ≡ true)
+    → (flagged (getD l 5 absent .set) && soundSlot w l 0 && (soundSlot w l 6 && soundSlot w l 7) && (soundSlot w l 8 && soundSlot w l 9) && (soundSlot w l 10 && soundSlot w l 11 && soundSlot w l 12 && soundSlot w l 13))
+    ≡ soundFile w (fileOf w registers)
+unfolding soundFile fileOf soundSlots
+sound-tested w registers long free =
+    let l = registers .slots in
+    let status : isSome (current w (fileFrom w 1 l) statusRow) ≡ flagged (getD l 5 absent .set) = ap isSome (current-kept w registers statusRow (omega arith)) ∙ set-is w statusRow _ in
+    let all : soundValuesFrom w 1 (fileFrom w 1 l) ≡ soundSlots w l 0 14 = sound-slots w l 14 0 (sym long) in
+    rw (← both-and, status, all, free 1 (omega arith) (omega arith), free 2 (omega arith) (omega arith), free 3 (omega arith) (omega arith), free 4 (omega arith) (omega arith), free 5 (omega arith) (omega arith)) (simp (and-assoc, bool.and-true))
 
 -- ---- what owning the registers tells
 
@@ -228,9 +254,11 @@ owned-at into own P tells (x ∷ l) [] s d k lt = absurd s
 owned-at into own P tells (x ∷ l) (u ∷ us) s d zero lt = tells x u (s .0)
 owned-at into own P tells (x ∷ l) (u ∷ us) s d (suc k) lt = owned-at into own P tells l us (s .1) d k (omega arith)
 
--- the bytes of each register are 32, as its type says
+-- there are as many registers as their type says, and each has 32 bytes
+pub slots-whole : (registers : Registers) (vs : List Val) → Is (row the-type) registers vs → length (registers .slots) ≡ 14
+slots-whole registers vs owned = length-mapped _ _ _ (registers .slots) 14 (owned .1 .1 .0 .1 .0 .1)
+
 pub slot-whole : (registers : Registers) (vs : List Val) → Is (row the-type) registers vs → (k : ℕ) → k < 14
     → length (getD (registers .slots) k absent .bytes) ≡ 32
 slot-whole registers vs owned k lt =
-    let slots = owned .1 .1 .0 .1 in
-    owned-at _ _ (λ (r : Register). length (r .bytes) ≡ 32) (λ r u s. length-mapped _ _ _ (r .bytes) 32 (s .1 .1 .1 .0 .1 .0 .1)) (registers .slots) _ (slots .1) absent k (omega (arith, length-mapped _ _ _ (registers .slots) 14 (slots .0 .1)))
+    owned-at _ _ (λ (r : Register). length (r .bytes) ≡ 32) (λ r u s. length-mapped _ _ _ (r .bytes) 32 (s .1 .1 .1 .0 .1 .0 .1)) (registers .slots) _ (owned .1 .1 .0 .1 .1) absent k (omega (arith, slots-whole registers vs owned))

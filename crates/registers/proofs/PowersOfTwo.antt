@@ -3,12 +3,12 @@ use Prim.Native.Nat.{ℕ, zero, suc, _+_, _*_, _/_, _%_, _^_, _≤_, _<_}
 use native.Mathlib.Nat.{lt-of-not-le, le-of-suc-le-suc}
 use native.Mathlib.Decide.{le-ind}
 use native.Mathlib.Omega.{arith}
-use mathlib.Core.Path.{_≡_, refl}
-use mathlib.Core.Bool.{Bool, true, false}
-use lib.Dec.{eqb}
+use mathlib.Core.Path.{_≡_, refl, sym}
+use mathlib.Core.Bool.{Bool, true, false, _&&_}
+use lib.Dec.{eqb, leb}
 use lib.Count.{ones, ones-step, ones-cat, ones-le}
 use lib.Pow.{pow-pos, pow-mono, pow-lt}
-use borrow.Author.Tests.{eq-eqb, eqb-true}
+use borrow.Author.Tests.{eq-eqb, eqb-true, leb-true, leb-false}
 use Rattle.answer.specs.Tests.{_or_}
 use Rattle.answer.proofs.Tests.{or-left, is-false, same-test}
 use Rattle.registers.specs.PowersOfTwo.{PowerByOnes}
@@ -74,10 +74,18 @@ power-made m k h =
     (le-of-suc-le-suc (lt-of-not-le (λ (g : m < k). omega (arith, pow-lt g))))
 
 -- they are what has one 1
-pub power-counted : (m n : ℕ) → m < 16 → n ≤ 2 ^ m → eqb (ones n) 1 ≡ powerOfTwo m n
+power-counted : (m n : ℕ) → m < 16 → n ≤ 2 ^ m → eqb (ones n) 1 ≡ powerOfTwo m n
 unfolding PowerByOnes
 power-counted m n l h =
     let law = power-by-ones n (omega (arith, pow-lt l)) in
     same-test _ _
     (λ t. let p = law .0 (eqb-true _ _ t) in rw (p .1) (power-made m (p .0) (omega arith)))
     (λ t. let p = power-is m n t in eq-eqb _ _ (law .1 (p .0, p .2)))
+
+-- the code's test of any number
+pub power-tested : (m n : ℕ) → m < 16 → (leb n (2 ^ m) && eqb (ones n) 1) ≡ powerOfTwo m n
+power-tested m n l = go (leb n (2 ^ m)) refl
+  where
+    go : (t : Bool) → leb n (2 ^ m) ≡ t → (t && eqb (ones n) 1) ≡ powerOfTwo m n
+    go true e = power-counted m n l (leb-true _ _ e)
+    go false e = sym (power-most m n (leb-false _ _ e))

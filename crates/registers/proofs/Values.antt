@@ -1,24 +1,36 @@
 -- Laws of what a value must satisfy.
 use Prim.Native.Nat.{ℕ, zero, suc, _+_, _*_, _%_, _≤_, _<_}
 use native.Mathlib.Omega.{arith}
-use mathlib.Core.Path.{_≡_, refl, sym}
-use mathlib.Core.Bool.{Bool, true, false}
+use mathlib.Core.Path.{_≡_, refl}
+use mathlib.Core.Bool.{Bool, true, false, _&&_, _||_}
 use mathlib.Core.List.{List, []}
 use lib.ListN.{length}
-use lib.Dec.{eqb, ltb}
+use lib.Dec.{eqb, leb, ltb}
 use borrow.Author.Tests.{eq-eqb, ne-eqb, leb-true, le-leb, eqb-true, ltb-true, ltb-false}
 use Rattle.answer.specs.Tests.{_and_, _or_, pick}
 use Rattle.answer.specs.Codes.{Twice, Value, Mismatch}
 use Rattle.answer.specs.Checks.{_then_, _when_, _unless_, passes}
 use Rattle.answer.specs.declared.Verdict.{Verdict}
 use Rattle.answer.specs.declared.Verdict.the-variants.{Pass, Fail}
-use Rattle.answer.proofs.Tests.{and-true, and-made, or-none, is-false, same-test, below}
+use Rattle.answer.proofs.Tests.{and-true, and-made, same-test, below}
 use Rattle.answer.proofs.Checks.{then-pass, unless-pass}
 use Rattle.wire.specs.Field.{field}
 use Rattle.wire.proofs.Laws.{field-split}
 use Rattle.registers.specs.Rows.{rowCount, statusRow, kindOf, widthOf, sizeIn, sizeOf}
-use Rattle.registers.specs.Values.{eachWord, within, powerOfTwo, validSize, validQueue, validNotify, contentChecks, valueChecks}
+use Rattle.registers.specs.Values.{eachWord, within, validSize, validQueue, validNotify, contentChecks, valueChecks}
 use Rattle.registers.proofs.Rows.{in-range}
+
+-- ---- tests that the code joins by `&` and `|`
+
+pub both-and : (s t : Bool) → (s && t) ≡ (s and t)
+unfolding _and_
+both-and true t = refl
+both-and false t = refl
+
+pub either-or : (s t : Bool) → (s || t) ≡ (s or t)
+unfolding _or_
+either-or true t = refl
+either-or false t = refl
 
 -- ---- the order of the checks
 
@@ -28,15 +40,6 @@ unfolding valueChecks sizeOf sizeIn widthOf _then_ _unless_
 length-first w = refl
 
 -- ---- a queue's value
-
--- the code's test of the size, by cases
-pub size-none : (size enabled : ℕ) → size ≡ 0 → eqb enabled 0 ≡ validSize size enabled
-unfolding _or_ _and_ powerOfTwo
-size-none size enabled e = rw e
-
-pub size-some : (size enabled : ℕ) → (size ≡ 0 → ⊥) → powerOfTwo 8 size ≡ validSize size enabled
-unfolding _and_
-size-some size enabled h = rw (ne-eqb _ _ h) (or-none _)
 
 -- what a valid one satisfies
 pub record Queue (v : List ℕ) : Type 0 where
@@ -64,31 +67,35 @@ queue-says v h =
       device = eqb-true _ _ (a .1);
     }
 
-pub no-queue : (v : List ℕ) → (Queue v → ⊥) → false ≡ validQueue v
-no-queue v h = sym (is-false _ (λ t. h (queue-says v t)))
-
 -- enabled and reserved, read as one number
-pub queue-state : (v : List ℕ) → field v 4 4 ≡ field v 4 2 + 65536 * field v 6 2
+queue-state : (v : List ℕ) → field v 4 4 ≡ field v 4 2 + 65536 * field v 6 2
 queue-state v = field-split v 4 2 2
 
--- the sum of the remainders decides where the other tests hold
-pub queue-last : (v : List ℕ) → field v 4 4 ≤ 1 → validSize (field v 0 2) (field v 4 4) ≡ true
-    → eqb (field v 8 8 % 16 + field v 16 8 % 2 + field v 24 8 % 4) 0 ≡ validQueue v
+-- the code's tests: enabled and reserved are small as one number, and the remainders have no sum
+pub queue-tested : (v : List ℕ) → (validSize (field v 0 2) (field v 4 4) and leb (field v 4 4) 1 and eqb (field v 8 8 % 16 + field v 16 8 % 2 + field v 24 8 % 4) 0) ≡ validQueue v
 unfolding validQueue
-queue-last v small size =
+queue-tested v =
     let s = queue-state v in
-    let low : field v 4 4 ≡ field v 4 2 = omega arith in
     same-test _ _
     (λ t.
-    let sum : field v 8 8 % 16 + field v 16 8 % 2 + field v 24 8 % 4 ≡ 0 = eqb-true _ _ t in
+    let a = and-true _ _ t in
+    let b = and-true _ _ (a .0) in
+    let small : field v 4 4 ≤ 1 = leb-true _ _ (b .1) in
+    let sum : field v 8 8 % 16 + field v 16 8 % 2 + field v 24 8 % 4 ≡ 0 = eqb-true _ _ (a .1) in
+    let low : field v 4 4 ≡ field v 4 2 = omega arith in
     let enabled : field v 4 2 ≤ 1 = omega arith in
     let reserved : field v 6 2 ≡ 0 = omega arith in
     let descriptors : field v 8 8 % 16 ≡ 0 = omega arith in
     let driver : field v 16 8 % 2 ≡ 0 = omega arith in
     let device : field v 24 8 % 4 ≡ 0 = omega arith in
-    let flags = and-made _ _ (and-made _ _ (rw low at size) (le-leb _ _ enabled)) (eq-eqb _ _ reserved) in
+    let flags = and-made _ _ (and-made _ _ (rw low at (b .0)) (le-leb _ _ enabled)) (eq-eqb _ _ reserved) in
     and-made _ _ (and-made _ _ (and-made _ _ flags (eq-eqb _ _ descriptors)) (eq-eqb _ _ driver)) (eq-eqb _ _ device))
-    (λ t. let q = queue-says v t in eq-eqb (field v 8 8 % 16 + field v 16 8 % 2 + field v 24 8 % 4) 0 (omega arith))
+    (λ t.
+    let q = queue-says v t in
+    let low : field v 4 2 ≡ field v 4 4 = omega arith in
+    let small : field v 4 4 ≤ 1 = omega arith in
+    let sum : field v 8 8 % 16 + field v 16 8 % 2 + field v 24 8 % 4 ≡ 0 = omega arith in
+    and-made _ _ (and-made _ _ (rw low at (q .size)) (le-leb _ _ small)) (eq-eqb _ _ sum))
 
 -- ---- what a value holds, row by row
 

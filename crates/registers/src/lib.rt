@@ -226,7 +226,7 @@ fn is_offered(exact: bool, v: &[u8], i: usize) -> bool
     x & word == x
 }
 
-// The same of each word that a card has. No loop: the loop over the registers in `sound` is unrolled only if it has none in it.
+// The same of each word that a card has: one, or two.
 fn are_offered(words: u8, exact: bool, v: &[u8]) -> bool
     requires { ⌜ (isCard words ≡ true) × (8 * words ≤ length (now v)) ⌝ }
     ensures { λ r. ⌜ r ≡ eachWord (pick exact eqb within) words (now (v .entry)) ⌝ }
@@ -240,24 +240,19 @@ fn are_offered(words: u8, exact: bool, v: &[u8]) -> bool
     is_offered(exact, v, 1)
 }
 
-// A power of two from 1 to 256: one of its binary digits is 1.
+// A power of two from 1 to 256: one of its binary digits is 1. Tests that soundness makes of every register in every call are joined by `&`
+// and `|`, which make no branches (see `sound`).
 pub fn is_power_of_two(n: u16) -> bool
     ensures { λ r. ⌜ r ≡ powerOfTwo 8 n ⌝ }
 {
-    if 256 < n {
-        return false;
-    }
-    u16::count_ones(n) == 1
+    (n <= 256) & (u16::count_ones(n) == 1)
 }
 
 // Size 0 says that the queue is unavailable.
 fn is_valid_size(size: u16, enabled: u32) -> bool
     ensures { λ r. ⌜ r ≡ validSize size enabled ⌝ }
 {
-    if size == 0 {
-        return enabled == 0;
-    }
-    is_power_of_two(size)
+    is_power_of_two(size) | (size == 0) & (enabled == 0)
 }
 
 // Few tests, since soundness asks them of every queue in every call: enabled and reserved are one number, and the remainders one sum.
@@ -266,13 +261,9 @@ fn is_valid_queue(v: &[u8]) -> bool
     ensures { λ r. ⌜ r ≡ validQueue (now (v .entry)) ⌝ }
 {
     let enabled = wire::get_u32(v, 4);
-    if 1 < enabled {
-        return false;
-    }
-    if !is_valid_size(wire::get_u16(v, 0), enabled) {
-        return false;
-    }
-    wire::get_u64(v, 8) % 16 + wire::get_u64(v, 16) % 2 + wire::get_u64(v, 24) % 4 == 0
+    let sized = is_valid_size(wire::get_u16(v, 0), enabled);
+    let rest = wire::get_u64(v, 8) % 16 + wire::get_u64(v, 16) % 2 + wire::get_u64(v, 24) % 4;
+    sized & (enabled <= 1) & (rest == 0)
 }
 
 fn fail_unless(code: u32, good: bool) -> Verdict
@@ -388,38 +379,43 @@ fn is_sound(words: u8, row: usize, r: Register) -> bool
     requires { ⌜ (isCard words ≡ true) × (0 < row) × (row < rowCount) × (length (r .bytes) ≡ 32) ⌝ }
     ensures { λ x. ⌜ x ≡ soundValue words row (registerValue words row r) ⌝ }
 {
-    if r.set != SET {
-        return true;
-    }
     let size = size_of(words, row);
     let bytes = r.bytes;
-    is_good(words, row, false, &bytes[..size])
+    let good = is_good(words, row, false, &bytes[..size]);
+    (r.set != SET) | good
 }
 
-// Whether status is set, and every set register holds a value that setting accepts. Driver features, which alone depend on the card, are
-// judged before the loop: the compiler would make two loops of one that asks for the card.
+// Whether status is set, and every set register holds a value that setting accepts. Common fields and status may hold anything. Each row is
+// written out, so that its rule is known when it is compiled. Two queues at a time: with a branch between any two, or with none at all, the
+// compiler keeps more of the registers on the stack.
 pub fn sound(words: u8, registers: Registers) -> bool
     requires { ⌜ isCard words ≡ true ⌝ }
     ensures { λ r. ⌜ r ≡ soundFile words (fileOf words registers) ⌝ }
 {
     let slots = registers.slots;
     let status = slots[STATUS_ROW - 1];
-    if status.set != SET {
-        return false;
-    }
     let features = slots[0];
-    if !is_sound(words, 1, features) {
+    let queue0 = slots[6];
+    let queue1 = slots[7];
+    let queue2 = slots[8];
+    let queue3 = slots[9];
+    let notify0 = slots[10];
+    let notify1 = slots[11];
+    let notify2 = slots[12];
+    let notify3 = slots[13];
+    if !((status.set == SET) & is_sound(words, 1, features)) {
         return false;
     }
-    let mut i: usize = 1;
-    while i < SLOTS {
-        let r = slots[i];
-        if !is_sound(words, i + 1, r) {
-            return false;
-        }
-        i += 1;
+    if !(is_sound(words, 7, queue0) & is_sound(words, 8, queue1)) {
+        return false;
     }
-    true
+    if !(is_sound(words, 9, queue2) & is_sound(words, 10, queue3)) {
+        return false;
+    }
+    is_sound(words, 11, notify0)
+        & is_sound(words, 12, notify1)
+        & is_sound(words, 13, notify2)
+        & is_sound(words, 14, notify3)
 }
 
 // No register set.

@@ -1,5 +1,6 @@
 -- What the handler of each request has to answer and leave, by what is known where it returns.
-use Prim.Native.Nat.{ℕ, _*_, _^_, _≤_, _<_}
+use native.Mathlib.Omega.{arith}
+use Prim.Native.Nat.{ℕ, _+_, _*_, _^_, _≤_, _<_}
 use mathlib.Core.Path.{_≡_, refl, sym, _∙_, ap}
 use mathlib.Core.List.{List, [], _∷_, map}
 use lib.ListN.{length, getD, List·getD-map}
@@ -13,12 +14,11 @@ use Rattle.answer.specs.Answer.{Answer, done, refused, settle}
 use Rattle.answer.specs.declared.Verdict.{Verdict}
 use Rattle.answer.specs.declared.Verdict.the-variants.{Pass, Fail}
 use Rattle.answer.proofs.Checks.{unless-true, unless-false}
-use Rattle.address.specs.Address.{deviceAddress}
-use Rattle.wire.specs.Field.{field, bytesOf}
-use Rattle.iommu.specs.Table.{inside, insert, without, totalSize, inUse, holding}
+use Rattle.address.specs.declared.DeviceAddress.{DeviceAddress}
+use Rattle.wire.specs.Field.{field}
+use Rattle.iommu.specs.Table.{inside, insert, without, totalSize, tableOf, inUse, holding}
 use Rattle.iommu.specs.Requests.{mapChecks, unmapChecks}
 use Rattle.iommu.specs.declared.Mapping.{Mapping}
-use Rattle.iommu.specs.declared.Table.{Table}
 use Rattle.memory.specs.Memory.{Memory}
 use Rattle.registers.specs.File.{reset, slotsOf}
 use Rattle.registers.specs.declared.Register.{Register}
@@ -26,35 +26,37 @@ use Rattle.registers.specs.declared.Registers.{Registers}
 use Rattle.emulator.specs.Machine.{Emulator, machineOf, emulatorOf, withMappings, withRegisters}
 use Rattle.emulator.specs.Effect.{Result, value, Piece, output, reporting, writing, effectOf, outcomeOf, filled}
 use Rattle.emulator.specs.Requests.{Request, getApiVersion, checkExtension, mapDma, unmapDma, getRegionInfo, getIrqInfo, resetDevice, Region, region, regions, regionAt, Interrupt, interrupt, interrupts, interruptAt, requestedMapping, requestedStart, requestedSize, requestedIndex, type1v2, listedChecks, listedEffect}
-use Rattle.emulator.specs.Contract.{nothing, requestWrites, withTableIn, withRegistersIn, stateWith, returned}
+use Rattle.emulator.specs.Contract.{nothing, requestWrites, withCountIn, withRegistersIn, stateWith, recordsWith, returned, leftRecords}
 use Rattle.emulator.specs.declared.State.{State}
-use Rattle.vfio.specs.Entries.{entryOf}
-use Rattle.vfio.specs.Handlers.{handled, Handles, Answers, Replies}
+use Rattle.vfio.specs.Entries.{requestCount, entryOf}
+use Rattle.vfio.specs.Handlers.{handled, Handles, Answers, Replies, resetIndex, Plain}
 
 -- ---- any request
 
-module _ (q : Request) (buf : List ℕ) (s : State) (m : Memory) where
-  pub handled-refused : (code place : ℕ) → listedChecks q buf (emulatorOf s m) ≡ Fail code place → Handles q buf s m (refused code place) buf s
-  unfolding handled outcomeOf effectOf settle filled returned
-  handled-refused code place e = record { answer = rw e; buffer = rw e; state = rw e }
+module _ (q : Request) (buf : List ℕ) (s : State) (rs : List Mapping) (m : Memory) where
+  pub handled-refused : (code place : ℕ) → listedChecks q buf (emulatorOf s rs m) ≡ Fail code place → Handles q buf s rs m (refused code place) buf s rs
+  unfolding handled outcomeOf effectOf settle filled returned leftRecords
+  handled-refused code place e = record { answer = rw e; buffer = rw e; state = rw e; records = rw e }
 
-  pub handled-done : (buf′ : List ℕ) (s′ : State) → listedChecks q buf (emulatorOf s m) ≡ Pass
-      → buf′ ≡ filled (listedEffect q buf (emulatorOf s m) .pieces) buf
-      → s′ ≡ stateWith (requestWrites q) (listedEffect q buf (emulatorOf s m) .machine) s
-      → Handles q buf s m (done (listedEffect q buf (emulatorOf s m) .result)) buf′ s′
-  unfolding handled outcomeOf effectOf settle returned
-  handled-done buf′ s′ e f g = record { answer = rw e; buffer = rw e f; state = rw e g }
+  pub handled-done : (buf′ : List ℕ) (s′ : State) (rs′ : List Mapping) → listedChecks q buf (emulatorOf s rs m) ≡ Pass
+      → buf′ ≡ filled (listedEffect q buf (emulatorOf s rs m) .pieces) buf
+      → s′ ≡ stateWith (requestWrites q) (listedEffect q buf (emulatorOf s rs m) .machine) s
+      → rs′ ≡ recordsWith (requestWrites q) (listedEffect q buf (emulatorOf s rs m) .machine) rs
+      → Handles q buf s rs m (done (listedEffect q buf (emulatorOf s rs m) .result)) buf′ s′ rs′
+  unfolding handled outcomeOf effectOf settle returned leftRecords
+  handled-done buf′ s′ rs′ e f g h = record { answer = rw e; buffer = rw e f; state = rw e g; records = rw e h }
 
 -- a request that passes on every state, and then reports `n` and writes the fields `ps`
 pub reports : (q : Request) (buf buf′ : List ℕ) (n : ℕ) (ps : List Piece) → ((e : Emulator) → listedChecks q buf e ≡ Pass)
     → ((e : Emulator) → listedEffect q buf e ≡ reporting n ps (e .machine)) → requestWrites q ≡ nothing → buf′ ≡ filled ps buf
     → Answers q buf (done (value n)) buf′
-unfolding handled outcomeOf effectOf settle returned stateWith
-reports q buf buf′ n ps pass effect none f = λ s m.
+unfolding handled outcomeOf effectOf settle returned leftRecords stateWith recordsWith
+reports q buf buf′ n ps pass effect none f = λ s rs m.
     record {
-      answer = rw (pass (emulatorOf s m), effect (emulatorOf s m));
-      buffer = rw (pass (emulatorOf s m), effect (emulatorOf s m)) f;
-      state = rw (pass (emulatorOf s m), none);
+      answer = rw (pass (emulatorOf s rs m), effect (emulatorOf s rs m));
+      buffer = rw (pass (emulatorOf s rs m), effect (emulatorOf s rs m)) f;
+      state = rw (pass (emulatorOf s rs m), none);
+      records = rw (pass (emulatorOf s rs m), none);
     }
 
 -- one field that is written before others
@@ -84,7 +86,7 @@ module _ (buf : List ℕ) where
 -- the index of 108 and 109, read as `i`, is judged against the `n` that there are; then the fields `ps` of that index are written
 module _ (q : Request) (buf : List ℕ) (n : ℕ) (judged : (e : Emulator) → listedChecks q buf e ≡ (Index unless ltb (field buf 8 4) n)) (i : ℕ) (is : i ≡ field buf 8 4) where
   pub index-refused : n ≤ i → Answers q buf (refused Index 0) buf
-  index-refused h = λ s m. handled-refused q buf s m Index 0 (judged _ ∙ unless-false _ _ (le-ltb _ _ (rw is at h)))
+  index-refused h = λ s rs m. handled-refused q buf s rs m Index 0 (judged _ ∙ unless-false _ _ (le-ltb _ _ (rw is at h)))
 
   index-done : (buf′ : List ℕ) (ps : ℕ → List Piece) → ((e : Emulator) → listedEffect q buf e ≡ writing (ps (field buf 8 4)) (e .machine)) → requestWrites q ≡ nothing
       → i < n → buf′ ≡ filled (ps i) buf → Answers q buf (done (value 0)) buf′
@@ -118,52 +120,73 @@ module _ (buf buf′ : List ℕ) (i : ℕ) (is : i ≡ field buf 8 4) where
       (λ e. rw (List·getD-map (λ (r : Interrupt). r .flags) interrupts (field buf 8 4) (interrupt 0 0), List·getD-map (λ (r : Interrupt). r .count) interrupts (field buf 8 4) (interrupt 0 0)))
       refl
 
--- ---- requests that change the state
+-- ---- requests that change the table
 
-module _ (buf : List ℕ) (s : State) where
-  module _ (mapping : Mapping) (is : mapping ≡ requestedMapping buf) (v : Verdict) (judged : v ≡ mapChecks (s .«memory_length») (inUse (s .table)) mapping) where
-    map-verdict : (m : Memory) → length (m .bytes) ≡ s .«memory_length» → listedChecks mapDma buf (emulatorOf s m) ≡ v
+module _ (buf : List ℕ) (s : State) (rs : List Mapping) where
+  module _ (mapping : Mapping) (is : mapping ≡ requestedMapping buf) (v : Verdict) (judged : v ≡ mapChecks (s .«memory_length») (length rs) (inUse (tableOf rs (s .count))) mapping) where
+    map-verdict : (m : Memory) → length (m .bytes) ≡ s .«memory_length» → listedChecks mapDma buf (emulatorOf s rs m) ≡ v
     unfolding listedChecks emulatorOf machineOf
     map-verdict m noted = rw (noted, ← is) (sym judged)
 
-    pub map-refused : (code place : ℕ) → v ≡ Fail code place → Replies mapDma buf s (refused code place) buf s
-    map-refused code place e = λ m noted. handled-refused mapDma buf s m code place (map-verdict m noted ∙ e)
+    pub map-refused : (code place : ℕ) → v ≡ Fail code place → Replies mapDma buf s rs (refused code place) buf s rs
+    map-refused code place e = λ m noted. handled-refused mapDma buf s rs m code place (map-verdict m noted ∙ e)
 
-    pub map-done : (t : Table) → v ≡ Pass → t ≡ holding (insert mapping (inUse (s .table))) (s .table)
-        → Replies mapDma buf s (done (value 0)) buf (withTableIn t s)
-    unfolding listedEffect emulatorOf machineOf withMappings requestWrites stateWith filled
-    map-done t e f = λ m noted.
-        handled-done mapDma buf s m buf _ (map-verdict m noted ∙ e) refl (rw (← is) (ap (λ (t : Table). withTableIn t s) f))
+    pub map-done : (n : ℕ) (rs′ : List Mapping) → v ≡ Pass → n ≡ length (insert mapping (inUse (tableOf rs (s .count)))) → rs′ ≡ holding (insert mapping (inUse (tableOf rs (s .count)))) rs
+        → Replies mapDma buf s rs (done (value 0)) buf (withCountIn n s) rs′
+    unfolding listedEffect emulatorOf machineOf withMappings requestWrites stateWith recordsWith filled
+    map-done n rs′ e f g = λ m noted.
+        handled-done mapDma buf s rs m buf _ rs′ (map-verdict m noted ∙ e) refl (rw (← is) (ap (λ (k : ℕ). withCountIn k s) f)) (rw (← is) g)
 
   -- the flags, the start and the size that were read
-  module _ (flags a n : ℕ) (flags-is : flags ≡ field buf 4 4) (start-is : a ≡ field buf 8 8) (size-is : n ≡ field buf 16 8)
-      (v : Verdict) (judged : v ≡ unmapChecks (inUse (s .table)) flags (deviceAddress a) n) where
-    unmap-verdict : (m : Memory) → listedChecks unmapDma buf (emulatorOf s m) ≡ v
-    unfolding listedChecks emulatorOf machineOf requestedStart requestedSize
+  module _ (flags : ℕ) (d : DeviceAddress) (n : ℕ) (flags-is : flags ≡ field buf 4 4) (start-is : d ≡ requestedStart buf) (size-is : n ≡ requestedSize buf)
+      (v : Verdict) (judged : v ≡ unmapChecks (inUse (tableOf rs (s .count))) flags d n) where
+    unmap-verdict : (m : Memory) → listedChecks unmapDma buf (emulatorOf s rs m) ≡ v
+    unfolding listedChecks emulatorOf machineOf
     unmap-verdict m = rw (← flags-is, ← start-is, ← size-is) (sym judged)
 
-    pub unmap-refused : (code place : ℕ) → v ≡ Fail code place → Replies unmapDma buf s (refused code place) buf s
-    unmap-refused code place e = λ m noted. handled-refused unmapDma buf s m code place (unmap-verdict m ∙ e)
+    pub unmap-refused : (code place : ℕ) → v ≡ Fail code place → Replies unmapDma buf s rs (refused code place) buf s rs
+    unmap-refused code place e = λ m noted. handled-refused unmapDma buf s rs m code place (unmap-verdict m ∙ e)
 
-    pub unmap-done : (buf′ : List ℕ) (t : Table) (sum : ℕ) → v ≡ Pass → t ≡ holding (without (inside (deviceAddress a) n) (inUse (s .table))) (s .table)
-        → sum ≡ totalSize (inside (deviceAddress a) n) (inUse (s .table)) → buf′ ≡ sets buf 16 (bytesOf 8 sum)
-        → Replies unmapDma buf s (done (value 0)) buf′ (withTableIn t s)
-    unfolding listedEffect emulatorOf machineOf withMappings requestWrites stateWith filled requestedStart requestedSize
-    unmap-done buf′ t sum e f g h = λ m noted.
-        handled-done unmapDma buf s m buf′ _ (unmap-verdict m ∙ e)
-        (h ∙ rw (← start-is, ← size-is) (ap (λ (x : ℕ). sets buf 16 (bytesOf 8 x)) g))
-        (rw (← start-is, ← size-is) (ap (λ (t : Table). withTableIn t s) f))
+    pub unmap-done : (buf′ : List ℕ) (k : ℕ) (rs′ : List Mapping) (sum : ℕ) → v ≡ Pass → k ≡ length (without (inside d n) (inUse (tableOf rs (s .count))))
+        → rs′ ≡ holding (without (inside d n) (inUse (tableOf rs (s .count)))) rs → sum ≡ totalSize (inside d n) (inUse (tableOf rs (s .count))) → buf′ ≡ filled (output 16 8 sum ∷ []) buf
+        → Replies unmapDma buf s rs (done (value 0)) buf′ (withCountIn k s) rs′
+    unfolding listedEffect emulatorOf machineOf withMappings requestWrites stateWith recordsWith
+    unmap-done buf′ k rs′ sum e f g h b = λ m noted.
+        handled-done unmapDma buf s rs m buf′ _ rs′ (unmap-verdict m ∙ e)
+        (b ∙ rw (← start-is, ← size-is) (ap (λ (x : ℕ). filled (output 16 8 x ∷ []) buf) h))
+        (rw (← start-is, ← size-is) (ap (λ (x : ℕ). withCountIn x s) f))
+        (rw (← start-is, ← size-is) g)
 
-  pub reset-done : (r : Registers) → r .slots ≡ slotsOf reset → Replies resetDevice buf s (done (value 0)) buf (withRegistersIn r s)
-  unfolding listedChecks listedEffect emulatorOf machineOf withRegisters requestWrites stateWith filled
+  pub reset-done : (r : Registers) → r .slots ≡ slotsOf reset → Replies resetDevice buf s rs (done (value 0)) buf (withRegistersIn r s) rs
+  unfolding listedChecks listedEffect emulatorOf machineOf withRegisters requestWrites stateWith recordsWith filled
   reset-done r e = λ m noted.
-      handled-done resetDevice buf s m buf _ refl refl (ap (λ (l : List Register). withRegistersIn (record { slots = l }) s) e)
+      handled-done resetDevice buf s rs m buf _ rs refl refl (ap (λ (l : List Register). withRegistersIn (record { slots = l }) s) e) refl
 
 -- ---- the handler of the entry at an index
 
-module _ (i k : ℕ) {buf : List ℕ} {s : State} {r : Answer Result} {buf′ : List ℕ} (is : i ≡ k) where
-  pub replies-at : {s′ : State} → Replies (entryOf k .request) buf s r buf′ s′ → Replies (entryOf i .request) buf s r buf′ s′
-  replies-at h = rw is h
+pub answers-at : (i k : ℕ) {buf : List ℕ} {r : Answer Result} {buf′ : List ℕ} → i ≡ k → Answers (entryOf k .request) buf r buf′ → Answers (entryOf i .request) buf r buf′
+answers-at i k is h = rw is h
 
-  pub answers-at : Answers (entryOf k .request) buf r buf′ → Replies (entryOf i .request) buf s r buf′ s
-  answers-at h = replies-at (λ m noted. h s m)
+pub plain-at : (i k : ℕ) {buf : List ℕ} {r : Answer Result} {buf′ : List ℕ} → i ≡ k → (k ≡ resetIndex → ⊥) → Answers (entryOf k .request) buf r buf′ → Plain i buf r buf′
+plain-at i k is not h = record { other = λ _ _ _. answers-at i k is h; reset = λ e. absurd (not (sym is ∙ e)) }
+
+above : (i k : ℕ) → k ≤ i → (i ≡ k → ⊥) → k + 1 ≤ i
+above i k le other = omega arith
+
+-- an index of the table that is none of those answered before: a map, an unmap or a reset
+pub plain-rest : (i : ℕ) (buf : List ℕ) → i < requestCount
+    → ((((((Unit {0} × (i ≡ 0 → ⊥)) × (i ≡ 1 → ⊥)) × (i ≡ 2 → ⊥)) × (i ≡ 5 → ⊥)) × (i ≡ 6 → ⊥)) × (i ≡ 7 → ⊥))
+    → Plain i buf (done (value 0)) buf
+plain-rest i buf lt h =
+    let three = above i 2 (above i 1 (above i 0 (omega arith) (h .0 .0 .0 .0 .0 .1)) (h .0 .0 .0 .0 .1)) (h .0 .0 .0 .1) in
+    record {
+      other = λ n3 n4 n8.
+          let nine = above i 8 (above i 7 (above i 6 (above i 5 (above i 4 (above i 3 three n3) n4) (h .0 .0 .1)) (h .0 .1)) (h .1)) n8 in
+          absurd (omega (arith, nine, lt));
+      reset = λ e. (refl, refl);
+    }
+
+-- a verdict that fails in two ways fails in one
+pub refused-same : {v : Verdict} {c p c′ p′ : ℕ} → v ≡ Fail c p → v ≡ Fail c′ p′ → _≡_ {A = Answer Result} (refused c p) (refused c′ p′)
+unfolding settle
+refused-same e f = ap (λ (v : Verdict). settle v (value 0)) (sym e ∙ f)

@@ -3,20 +3,50 @@ use address::DeviceAddress;
 use address::MemoryAddress;
 use answer::Answer;
 use answer::Verdict;
-use emulator::Reply;
 use emulator::State;
 use iommu::Mapping;
+use iommu::Search;
+use iommu::Unmap;
 ghost use mathlib.Core.Path.{_≡_};
 ghost use mathlib.Core.Bool.{true};
-ghost use Prim.Native.Nat.{_≤_};
-ghost use lib.ListN.{length};
+ghost use mathlib.Core.List.{List, [], _∷_};
+ghost use Prim.Native.Nat.{_+_, _-_, _^_, _≤_, _<_};
+ghost use lib.Dec.{eqb};
+ghost use lib.ListN.{length, getD};
+ghost use Rattle.answer.specs.Tests.{_and_};
+ghost use Rattle.answer.specs.Checks.{passes};
+ghost use Rattle.answer.specs.Answer.{settle};
 ghost use Rattle.answer.specs.declared.Verdict.the-variants.{Pass};
-ghost use Rattle.iommu.specs.Table.{Sound};
-ghost use Rattle.emulator.specs.Requests.{checkExtension, getIommuInfo, mapDma, unmapDma, getInfo, getRegionInfo, getIrqInfo, resetDevice, requestedMapping, argszChecks, identify as identified, sizeChecks};
-ghost use Rattle.emulator.specs.Calls as calls;
-ghost use Rattle.emulator.specs.Contract.{Meets, lentMemory, told};
-ghost use Rattle.vfio.specs.Entries.{requestCount, entryOf, entryAt};
-ghost use Rattle.vfio.specs.Handlers.{Answers, Replies};
+ghost use Rattle.address.specs.Address.{memoryLimit};
+ghost use Rattle.wire.specs.Field.{field};
+ghost use Rattle.iommu.specs.Table.{Sound, Placed, blank, soundTable, tableOf, inUse};
+ghost use Rattle.iommu.specs.Requests.{mapChecks, endOf, Unmaps};
+ghost use Rattle.iommu.specs.declared.Mapping.{Mapping as MappingRecord};
+ghost use Rattle.emulator.specs.Machine.{machineOf, sound as soundMachine};
+ghost use Rattle.emulator.specs.Effect.{value, output, filled};
+ghost use Rattle.emulator.specs.Requests.{checkExtension, getIommuInfo, mapDma, unmapDma, getInfo, getRegionInfo, getIrqInfo, requestedMapping, requestedStart, requestedSize, argszChecks, identify as identified, sizeChecks};
+ghost use Rattle.emulator.specs.Contract.{told};
+ghost use Rattle.vfio.specs.Entries.{requestCount, entryAt};
+ghost use Rattle.vfio.specs.Handlers.{Answers, Replies, Admits, mapIndex, unmapIndex, resetIndex, Plain, Answered, Maps};
+
+// What checks 1 to 4 of a request come to, and the index of the request in the table.
+pub struct Admission {
+    pub verdict: Verdict,
+    pub index: usize,
+}
+
+// What a map comes to: its checks, and the place of the new record.
+pub struct Map {
+    pub verdict: Verdict,
+    pub at: usize,
+}
+
+// The range of an unmap.
+pub struct Range {
+    pub flags: u32,
+    pub start: DeviceAddress,
+    pub size: u64,
+}
 
 // ---- the table of requests
 
@@ -158,57 +188,183 @@ fn requested_mapping(buf: &[u8]) -> Mapping
     }
 }
 
-fn map_dma(state: State, buf: &[u8]) -> Reply
-    requires { ⌜ (Sound (state .table)) × (32 ≤ length (now buf)) ⌝ }
-    ensures { λ r. ⌜ Replies mapDma (now (buf .entry)) state (told (r .answer)) (now (buf .entry)) (r .state) ⌝ }
+fn first_of(m: Mapping) -> DeviceAddress
+    ensures { λ r. ⌜ r ≡ m .device ⌝ }
 {
-    let table = state.table;
-    let mapping = requested_mapping(buf);
-    let verdict = iommu::check_map(table, state.memory_length, mapping);
-    match verdict {
-        Verdict::Fail(code, place) => Reply {
-            answer: Answer::Refused(code, place),
-            state,
-        },
-        Verdict::Pass => {
-            let mut next = state;
-            let longer = iommu::insert(table, mapping);
-            next.table = longer;
-            Reply {
-                answer: Answer::Done(0),
-                state: next,
-            }
-        }
+    m.device
+}
+
+fn place_of(s: Search) -> usize
+    ensures { λ r. ⌜ r ≡ s .lo ⌝ }
+{
+    s.lo
+}
+
+fn planned_map(
+    m: Mapping,
+    size: u64,
+    room: usize,
+    count: usize,
+    found: Search,
+    next: Mapping,
+) -> Map
+    ensures { λ r. ⌜ ((ms : List MappingRecord) → soundTable memoryLimit ms ≡ true → length ms ≡ count → Placed ms (m .device) (found .lo) (found .held) → next ≡ getD ms (found .lo) blank → r .verdict ≡ mapChecks size room ms m) × (r .at ≡ found .lo) ⌝ }
+{
+    let verdict = iommu::check_map(m, size, room, count, found, next);
+    Map {
+        verdict,
+        at: found.lo,
     }
 }
 
-// The size field takes in the size asked, and gives out the sum of the sizes removed.
-fn unmap_dma(state: State, buf: &mut [u8]) -> Reply
-    requires { ⌜ (Sound (state .table)) × (24 ≤ length (now buf)) ⌝ }
-    ensures { λ r. ⌜ Replies unmapDma (now (buf .entry)) state (told (r .answer)) (now (buf .exit)) (r .state) ⌝ }
+// The checks of a map for a memory of `size` bytes, and the place of the new record among those in use.
+fn plan_map(records: &[Mapping], count: usize, size: u64, m: Mapping) -> Map
+    requires { ⌜ Sound (tableOf (now records) count) ⌝ }
+    ensures { λ r. ⌜ Maps size (length (now (records .entry))) (inUse (tableOf (now (records .entry)) count)) m r ⌝ }
 {
-    let table = state.table;
+    let found = iommu::find(records, count, first_of(m));
+    let next = iommu::get(records, count, place_of(found));
+    planned_map(m, size, records.len(), count, found, next)
+}
+
+fn goes_ahead(m: Map) -> bool
+    ensures { λ r. ⌜ r ≡ passes (m .verdict) ⌝ }
+{
+    let verdict = m.verdict;
+    match verdict {
+        Verdict::Pass => true,
+        Verdict::Fail(code, place) => false,
+    }
+}
+
+fn place_in(m: Map) -> usize
+    ensures { λ r. ⌜ r ≡ m .at ⌝ }
+{
+    m.at
+}
+
+fn one_more(count: usize) -> usize
+    requires { ⌜ count + 1 < 2 ^ 64 ⌝ }
+    ensures { λ r. ⌜ r ≡ count + 1 ⌝ }
+{
+    count + 1
+}
+
+// A map: its checks decide, and its answer is theirs.
+pub fn map_dma(state: &mut State, records: &mut [Mapping], buf: &[u8]) -> Map
+    requires { ⌜ (soundMachine (length (now records)) (machineOf (now state) (now records)) ≡ true) × (32 ≤ length (now buf)) ⌝ }
+    ensures { λ r. ⌜ Replies mapDma (now (buf .entry)) (now (state .entry)) (now (records .entry)) (settle (r .verdict) (value 0)) (now (buf .entry)) (now (state .exit)) (now (records .exit)) ⌝ }
+{
+    let mapping = requested_mapping(buf);
+    let size = state.memory_length;
+    let count = state.count;
+    let plan = plan_map(records, count, size, mapping);
+    if goes_ahead(plan) {
+        iommu::insert(records, count, place_in(plan), mapping);
+        state.count = one_more(count);
+    }
+    plan
+}
+
+fn requested_range(buf: &[u8]) -> Range
+    requires { ⌜ 24 ≤ length (now buf) ⌝ }
+    ensures { λ r. ⌜ (r .flags ≡ field (now (buf .entry)) 4 4) × (r .start ≡ requestedStart (now (buf .entry))) × (r .size ≡ requestedSize (now (buf .entry))) ⌝ }
+{
     let flags = wire::get_u32(buf, 4);
     let start = DeviceAddress(wire::get_u64(buf, 8));
     let size = wire::get_u64(buf, 16);
-    let verdict = iommu::check_unmap(table, flags, start, size);
+    Range { flags, start, size }
+}
+
+fn start_of(r: Range) -> DeviceAddress
+    ensures { λ a. ⌜ a ≡ r .start ⌝ }
+{
+    r.start
+}
+
+fn past(r: Range) -> DeviceAddress
+    ensures { λ a. ⌜ a ≡ endOf (r .start) (r .size) ⌝ }
+{
+    iommu::end_of(r.start, r.size)
+}
+
+fn planned_unmap(
+    r: Range,
+    count: usize,
+    first: Search,
+    x: Mapping,
+    last: Search,
+    y: Mapping,
+) -> Unmap
+    ensures { λ u. ⌜ ((ms : List MappingRecord) → soundTable memoryLimit ms ≡ true → length ms ≡ count → Placed ms (r .start) (first .lo) (first .held) → x ≡ getD ms (first .lo) blank → Placed ms (endOf (r .start) (r .size)) (last .lo) (last .held) → y ≡ getD ms (last .lo) blank → Unmaps ms (r .flags) (r .start) (r .size) u) ⌝ }
+{
+    iommu::check_unmap(r.flags, r.start, r.size, count, first, x, last, y)
+}
+
+// The checks of an unmap, and the records that it removes.
+fn plan_unmap(records: &[Mapping], count: usize, range: Range) -> Unmap
+    requires { ⌜ Sound (tableOf (now records) count) ⌝ }
+    ensures { λ r. ⌜ Unmaps (inUse (tableOf (now (records .entry)) count)) (range .flags) (range .start) (range .size) r ⌝ }
+{
+    let first = iommu::find(records, count, start_of(range));
+    let x = iommu::get(records, count, place_of(first));
+    let last = iommu::find(records, count, past(range));
+    let y = iommu::get(records, count, place_of(last));
+    planned_unmap(range, count, first, x, last, y)
+}
+
+fn removes(u: Unmap) -> bool
+    ensures { λ r. ⌜ r ≡ passes (u .verdict) ⌝ }
+{
+    let verdict = u.verdict;
     match verdict {
-        Verdict::Fail(code, place) => Reply {
-            answer: Answer::Refused(code, place),
-            state,
-        },
-        Verdict::Pass => {
-            let removed = iommu::remove(table, start, size);
-            wire::put_u64(buf, 16, removed.size);
-            let mut next = state;
-            let rest = removed.table;
-            next.table = rest;
-            Reply {
-                answer: Answer::Done(0),
-                state: next,
-            }
-        }
+        Verdict::Pass => true,
+        Verdict::Fail(code, place) => false,
     }
+}
+
+fn from_of(u: Unmap) -> usize
+    ensures { λ r. ⌜ r ≡ u .from ⌝ }
+{
+    u.from
+}
+
+fn to_of(u: Unmap) -> usize
+    ensures { λ r. ⌜ r ≡ u .to ⌝ }
+{
+    u.to
+}
+
+fn left(count: usize, u: Unmap) -> usize
+    requires { ⌜ (u .from ≤ u .to) × (u .to ≤ count) ⌝ }
+    ensures { λ r. ⌜ r ≡ count - (u .to - u .from) ⌝ }
+{
+    count - (u.to - u.from)
+}
+
+// The size field takes in the size asked, and gives out the sum of the sizes removed.
+fn put_size(buf: &mut [u8], size: u64)
+    requires { ⌜ 24 ≤ length (now buf) ⌝ }
+    ensures { λ _. ⌜ now (buf .exit) ≡ filled (output 16 8 size ∷ []) (now (buf .entry)) ⌝ }
+{
+    wire::put_u64(buf, 16, size);
+}
+
+// An unmap, likewise.
+pub fn unmap_dma(state: &mut State, records: &mut [Mapping], buf: &mut [u8]) -> Unmap
+    requires { ⌜ (soundMachine (length (now records)) (machineOf (now state) (now records)) ≡ true) × (24 ≤ length (now buf)) ⌝ }
+    ensures { λ r. ⌜ Replies unmapDma (now (buf .entry)) (now (state .entry)) (now (records .entry)) (settle (r .verdict) (value 0)) (now (buf .exit)) (now (state .exit)) (now (records .exit)) ⌝ }
+{
+    let range = requested_range(buf);
+    let count = state.count;
+    let plan = plan_unmap(records, count, range);
+    if removes(plan) {
+        let size = iommu::sizes(records, count, from_of(plan), to_of(plan));
+        iommu::close(records, count, from_of(plan), to_of(plan));
+        put_size(buf, size);
+        state.count = left(count, plan);
+    }
+    plan
 }
 
 // ---- device
@@ -272,86 +428,79 @@ fn get_irq_info(buf: &mut [u8]) -> Answer
     Answer::Done(0)
 }
 
-// The registers alone are reset: the device runs on where it ran.
-fn reset_device(state: State, buf: &[u8]) -> Reply
-    ensures { λ r. ⌜ Replies resetDevice (now (buf .entry)) state (told (r .answer)) (now (buf .entry)) (r .state) ⌝ }
-{
-    let mut next = state;
-    let registers = registers::reset();
-    next.registers = registers;
-    Reply {
-        answer: Answer::Done(0),
-        state: next,
-    }
-}
-
 // ---- the call
 
-// The request at an index of the table, behind checks 1 to 4.
-fn dispatch(state: State, index: usize, buf: &mut [u8]) -> Reply
-    requires { ⌜ (Sound (state .table)) × (sizeChecks (entryAt index) (now buf) ≡ Pass) ⌝ }
-    ensures { λ r. ⌜ Replies (entryOf index .request) (now (buf .entry)) state (told (r .answer)) (now (buf .exit)) (r .state) ⌝ }
+// Checks 1 to 4: whether refusal 1 passes is known, then the request's number, its size and its argsz.
+pub fn admit(ok: bool, target: u32, number: u32, buf: &[u8]) -> Admission
+    ensures { λ r. ⌜ Admits ok target number (now (buf .entry)) r ⌝ }
 {
-    match index {
-        GET_API_VERSION => Reply {
-            answer: Answer::Done(API_VERSION),
-            state,
-        },
-        CHECK_EXTENSION => Reply {
-            answer: check_extension(buf),
-            state,
-        },
-        GET_IOMMU_INFO => Reply {
-            answer: get_iommu_info(buf),
-            state,
-        },
-        MAP_DMA => map_dma(state, buf),
-        UNMAP_DMA => unmap_dma(state, buf),
-        GET_INFO => Reply {
-            answer: get_info(buf),
-            state,
-        },
-        GET_REGION_INFO => Reply {
-            answer: get_region_info(buf),
-            state,
-        },
-        GET_IRQ_INFO => Reply {
-            answer: get_irq_info(buf),
-            state,
-        },
-        RESET_DEVICE => reset_device(state, buf),
-        // Not reached: check 2 has refused what is not listed.
-        _ => Reply {
-            answer: Answer::Refused(answer::NO_SUCH_REQUEST, 0),
-            state,
-        },
-    }
-}
-
-// A request on a target, 0 the container and 1 the device, by its number.
-pub fn request(
-    state: State,
-    bytes: &[u8],
-    shadow: &[u8],
-    target: u32,
-    number: u32,
-    buf: &mut [u8],
-) -> Reply
-    ensures { λ r. ⌜ Meets (calls.request target number) (now (buf .entry)) state (lentMemory bytes shadow) (told (r .answer)) (now (buf .exit)) (lentMemory bytes shadow) (r .state) ⌝ }
-{
-    if !emulator::usable(state, bytes, shadow) {
-        return Reply {
-            answer: Answer::Refused(answer::BAD_BENCH, 0),
-            state,
+    if !ok {
+        return Admission {
+            verdict: Verdict::Fail(answer::BAD_BENCH, 0),
+            index: REQUESTS,
         };
     }
     let index = identify(target, number);
     let verdict = check_size(index, buf);
+    Admission { verdict, index }
+}
+
+fn admitted_as(a: Admission, index: usize) -> bool
+    ensures { λ r. ⌜ r ≡ (passes (a .verdict) and eqb (a .index) index) ⌝ }
+{
+    let verdict = a.verdict;
     match verdict {
-        Verdict::Fail(code, place) => Reply {
-            answer: Answer::Refused(code, place),
-            state,
-        },
-        Verdict::Pass => dispatch(state, index, buf),
+        Verdict::Pass => a.index == index,
+        Verdict::Fail(code, place) => false,
+    }
+}
+
+pub fn maps(a: Admission) -> bool
+    ensures { λ r. ⌜ r ≡ (passes (a .verdict) and eqb (a .index) mapIndex) ⌝ }
+{
+    admitted_as(a, MAP_DMA)
+}
+
+pub fn unmaps(a: Admission) -> bool
+    ensures { λ r. ⌜ r ≡ (passes (a .verdict) and eqb (a .index) unmapIndex) ⌝ }
+{
+    admitted_as(a, UNMAP_DMA)
+}
+
+pub fn resets(a: Admission) -> bool
+    ensures { λ r. ⌜ r ≡ (passes (a .verdict) and eqb (a .index) resetIndex) ⌝ }
+{
+    admitted_as(a, RESET_DEVICE)
+}
+
+// The answer of a request that looks at its buffer alone, behind checks 1 to 4.
+fn answer_of(index: usize, buf: &mut [u8]) -> Answer
+    requires { ⌜ sizeChecks (entryAt index) (now buf) ≡ Pass ⌝ }
+    ensures { λ r. ⌜ Plain index (now (buf .entry)) (told r) (now (buf .exit)) ⌝ }
+{
+    match index {
+        GET_API_VERSION => Answer::Done(API_VERSION),
+        CHECK_EXTENSION => check_extension(buf),
+        GET_IOMMU_INFO => get_iommu_info(buf),
+        GET_INFO => get_info(buf),
+        GET_REGION_INFO => get_region_info(buf),
+        GET_IRQ_INFO => get_irq_info(buf),
+        // A reset, which has no result; others are not reached.
+        _ => Answer::Done(0),
+    }
+}
+
+// The answer of a request that is refused by checks 1 to 4, or looks at its buffer alone; and of a reset, which has no result.
+pub fn reply(a: Admission, buf: &mut [u8]) -> Answer
+    requires { ⌜ (a .verdict ≡ Pass → sizeChecks (entryAt (a .index)) (now buf) ≡ Pass) ⌝ }
+    ensures { λ r. ⌜ Answered a (now (buf .entry)) (told r) (now (buf .exit)) ⌝ }
+{
+    let verdict = a.verdict;
+    match verdict {
+        Verdict::Fail(code, place) => Answer::Refused(code, place),
+        Verdict::Pass => {
+            let index = a.index;
+            answer_of(index, buf)
+        }
     }
 }

@@ -4,7 +4,7 @@
 
 use std::hint::black_box;
 
-use glintbasket::raw::{self as emulator, State};
+use glintbasket::raw::{self as emulator, Mapping, State};
 
 use crate::plain;
 use crate::world::World;
@@ -23,9 +23,6 @@ pub struct Call {
     pub name: &'static str,
     pub emulator: Program,
     pub plain: Program,
-    /// The plain program's call behind the emulator's interface, where that gives the state back: it
-    /// goes in by value and comes back by value.
-    pub by_value: Option<Program>,
     /// Which one it is of those that move bytes.
     pub moves: Option<Move>,
 }
@@ -65,8 +62,7 @@ macro_rules! repeat {
 }
 pub(crate) use repeat;
 
-/// A call that leaves the state alone, for which the emulator's function and the plain program's
-/// take the same arguments.
+/// A call for which the emulator's function and the plain program's take the same arguments.
 macro_rules! call {
     (
         $name:literal, $moves:expr, $emulator:ident, $plain:ident,
@@ -76,7 +72,6 @@ macro_rules! call {
             name: $name,
             emulator: repeat!(|$w| !emulator::$emulator($($argument),*).refused),
             plain: repeat!(|$w| plain::$plain($($argument),*).is_ok()),
-            by_value: None,
             moves: $moves,
         }
     };
@@ -87,6 +82,7 @@ macro_rules! load {
     ($name:literal, $kind:ident, $emulator:ident, $plain:ident, $place:ident) => {
         call!($name, Some(Move::$kind), $emulator, $plain, |w| (
             &w.state,
+            &w.records,
             w.memory.get(),
             w.marks.get(),
             w.$place,
@@ -100,6 +96,7 @@ macro_rules! store {
     ($name:literal, $kind:ident, $emulator:ident, $plain:ident, $place:ident) => {
         call!($name, Some(Move::$kind), $emulator, $plain, |w| (
             &w.state,
+            &w.records,
             w.memory.get_mut(),
             w.marks.get_mut(),
             w.$place,
@@ -142,18 +139,18 @@ fn mark(w: &mut World) -> Accepted {
 
 pub const LOOK_UP: Call = Call {
     name: "look-up",
-    emulator: repeat!(|w| !emulator::look_up(&w.state, w.device).outcome.refused),
-    plain: repeat!(|w| plain::look_up(&w.state, w.device).is_ok()),
-    by_value: None,
+    emulator: repeat!(|w| !emulator::look_up(&w.state, &w.records, w.device)
+        .outcome
+        .refused),
+    plain: repeat!(|w| plain::look_up(&w.state, &w.records, w.device).is_ok()),
     moves: None,
 };
 
-/// The caller keeps the state that comes back. The new mapping lies behind all others.
+/// The new mapping lies behind all others.
 pub const MAP: Call = Call {
     name: "map",
     emulator: repeat!(|w| undone(emulator_request, w, 113)),
     plain: repeat!(|w| undone(plain_request, w, 113)),
-    by_value: Some(repeat!(|w| undone(by_value_request, w, 113))),
     moves: None,
 };
 
@@ -162,7 +159,6 @@ pub const UNMAP: Call = Call {
     name: "unmap",
     emulator: repeat!(|w| undone(emulator_request, w, 114)),
     plain: repeat!(|w| undone(plain_request, w, 114)),
-    by_value: Some(repeat!(|w| undone(by_value_request, w, 114))),
     moves: None,
 };
 
@@ -170,7 +166,7 @@ pub const UNMAP: Call = Call {
 #[inline(always)]
 fn undone(request: impl Fn(&mut World, u32) -> Accepted, w: &mut World, number: u32) -> Accepted {
     let accepted = request(w, number);
-    w.state.table.count = w.held;
+    w.state.count = w.held;
     accepted
 }
 
@@ -179,35 +175,20 @@ pub const MAP_UNMAP: Call = Call {
     name: "map-unmap",
     emulator: repeat!(|w| emulator_request(w, 113) & emulator_request(w, 114)),
     plain: repeat!(|w| plain_request(w, 113) & plain_request(w, 114)),
-    by_value: Some(repeat!(
-        |w| by_value_request(w, 113) & by_value_request(w, 114)
-    )),
     moves: None,
 };
 
 #[inline(always)]
 fn emulator_request(w: &mut World, number: u32) -> Accepted {
-    on_request(w, number, |state, memory, marks, buffer| {
-        let kept = emulator::request(state, memory, marks, 0, number, buffer);
-        *state = kept.state;
-        !kept.outcome.refused
+    on_request(w, number, |state, records, memory, marks, buffer| {
+        !emulator::request(state, records, memory, marks, 0, number, buffer).refused
     })
 }
 
 #[inline(always)]
 fn plain_request(w: &mut World, number: u32) -> Accepted {
-    on_request(w, number, |state, memory, marks, buffer| {
-        plain::request(state, memory, marks, 0, number, buffer).is_ok()
-    })
-}
-
-#[inline(always)]
-fn by_value_request(w: &mut World, number: u32) -> Accepted {
-    on_request(w, number, |state, memory, marks, buffer| {
-        let request: plain::by_value::Request = black_box(plain::by_value::request);
-        let (next, answer) = request(*state, memory, marks, 0, number, buffer);
-        *state = next;
-        answer.is_ok()
+    on_request(w, number, |state, records, memory, marks, buffer| {
+        plain::request(state, records, memory, marks, 0, number, buffer).is_ok()
     })
 }
 
@@ -216,7 +197,7 @@ fn by_value_request(w: &mut World, number: u32) -> Accepted {
 fn on_request(
     w: &mut World,
     number: u32,
-    request: impl FnOnce(&mut State, &[u8], &[u8], &mut [u8]) -> Accepted,
+    request: impl FnOnce(&mut State, &mut [Mapping], &[u8], &[u8], &mut [u8]) -> Accepted,
 ) -> Accepted {
     let (mut map, mut unmap) = (w.map, w.unmap);
     let buffer = if number == 113 {
@@ -224,18 +205,18 @@ fn on_request(
     } else {
         &mut unmap[..]
     };
-    request(&mut w.state, w.memory.get(), w.marks.get(), buffer)
+    let (memory, marks) = (w.memory.get(), w.marks.get());
+    request(&mut w.state, &mut w.records, memory, marks, buffer)
 }
 
-pub const LOAD: Call = Call {
-    name: "load",
-    emulator: repeat!(|w| !emulator::load_parts(&mut w.state, &w.buffer.get()[..w.size]).refused),
-    plain: repeat!(|w| plain::load_parts(&mut w.state, &w.buffer.get()[..w.size]).is_ok()),
-    by_value: None,
-    moves: None,
-};
+pub const LOAD: Call = call!("load", None, load_parts, load_parts, |w| (
+    &mut w.state,
+    &w.records,
+    &w.buffer.get()[..w.size]
+));
 
 pub const SAVE: Call = call!("save", None, save_parts, save_parts, |w| (
     &w.state,
+    &w.records,
     &mut w.buffer.get_mut()[..w.size]
 ));

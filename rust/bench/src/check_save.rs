@@ -10,7 +10,7 @@ use crate::world::World;
 
 /// Prints the ratio and the times for the shortest and the longest save.
 pub fn show() {
-    for mut world in [World::new(0, 0).reset().saved(), World::new(0, 0).saved()] {
+    for mut world in [World::full(0, 0).reset().saved(), World::full(0, 0).saved()] {
         let mut contenders = [
             Contender {
                 name: "emulator",

@@ -33,7 +33,8 @@ pub fn measure_all(rivals: &[Rival]) {
         timing::ROUNDS,
         timing::BATCH.as_micros()
     );
-    println!("# ratio NAME SIZE MAPPINGS VALUE");
+    println!("# every record is in use, but for one where a map is made");
+    println!("# ratio NAME SIZE RECORDS VALUE");
     for measure in measures() {
         show(measure, rivals);
     }
@@ -43,12 +44,13 @@ pub fn measure_all(rivals: &[Rival]) {
 fn show(mut measure: Measure, rivals: &[Rival]) {
     let mut contenders = contenders(&mut measure, rivals);
     let best = timing::best_times(&mut contenders, &mut measure.world);
-    let (name, size, held) = (measure.call.name, measure.world.size, measure.held);
+    let (name, size) = (measure.call.name, measure.world.size);
+    let records = measure.world.records.len();
     for (other, time) in contenders.iter().zip(&best).skip(1) {
         let ratio = best[0] / time;
-        println!("ratio {name}/{} {size} {held} {ratio:.2}", other.name);
+        println!("ratio {name}/{} {size} {records} {ratio:.2}", other.name);
     }
-    print!("time {name} {size} {held}");
+    print!("time {name} {size} {records}");
     for (contender, time) in contenders.iter().zip(&best) {
         print!(" {} {time:.1}", contender.name);
     }
@@ -61,14 +63,11 @@ fn contenders(measure: &mut Measure, rivals: &[Rival]) -> Vec<Contender> {
     // A look-up with no mapping finds none; all else is accepted.
     let accepted = (call.emulator)(world, 1);
     assert_eq!(accepted, (call.plain)(world, 1), "{}", call.name);
-    assert!(accepted || (call.name == "look-up" && measure.held == 0));
+    assert!(accepted || (call.name == "look-up" && world.held == 0));
     let mut list = Vec::new();
     let mut add = |name, program| list.push(Contender { name, program });
     add("emulator", Box::new(call.emulator));
     add("rust", Box::new(call.plain));
-    if let Some(program) = call.by_value {
-        add("rust-by-value", Box::new(program));
-    }
     if let Some(kind) = call.moves {
         for (name, program) in kind.copies() {
             add(name, Box::new(program));
@@ -87,36 +86,36 @@ fn contenders(measure: &mut Measure, rivals: &[Rival]) -> Vec<Contender> {
 #[cfg(test)]
 mod tests {
     use super::*;
-    use glintbasket::raw::{Mapping, Registers};
+    use glintbasket::raw::{Mapping, State};
 
-    /// What a call answers and leaves. Table entries past the count mean nothing.
+    /// What a call answers and leaves, stale records too.
     #[derive(PartialEq)]
     struct Left {
         accepted: bool,
         buffer: Vec<u8>,
         memory: Vec<u8>,
         marks: Vec<u8>,
-        mappings: Vec<Mapping>,
-        registers: Registers,
+        records: Vec<Mapping>,
+        state: State,
     }
 
     fn left(measure: &Measure, program: Program) -> Left {
-        let mut world = World::new(measure.held, measure.world.size.min(65536));
-        world.state = measure.world.state;
+        let given = &measure.world;
+        let mut world = World::new(given.records.len(), given.held, given.size.min(65536));
+        world.state = given.state;
         world.map = measure.world.map;
         world.unmap = measure.world.unmap;
         world.size = measure.world.size;
         let stream = measure.world.buffer.get();
         world.buffer.get_mut().copy_from_slice(stream);
         let accepted = program(&mut world, 1);
-        let table = &world.state.table;
         Left {
             accepted,
             buffer: world.buffer.get().to_vec(),
             memory: world.memory.get().to_vec(),
             marks: world.marks.get().to_vec(),
-            mappings: table.entries[..table.count].to_vec(),
-            registers: world.state.registers,
+            records: world.records,
+            state: world.state,
         }
     }
 
@@ -124,11 +123,9 @@ mod tests {
     fn the_plain_program_does_what_the_emulator_does() {
         for measure in measures() {
             let emulator = left(&measure, measure.call.emulator);
-            for plain in [Some(measure.call.plain), measure.call.by_value] {
-                let Some(plain) = plain else { continue };
-                let plain = left(&measure, plain);
-                assert!(emulator == plain, "{} {}", measure.call.name, measure.held);
-            }
+            let plain = left(&measure, measure.call.plain);
+            let (name, held) = (measure.call.name, measure.world.held);
+            assert!(emulator == plain, "{name} {held}");
         }
     }
 }

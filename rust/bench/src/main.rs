@@ -16,7 +16,7 @@ fn main() -> ExitCode {
     match call_alone(&arguments) {
         Some(()) => ExitCode::SUCCESS,
         None => {
-            eprintln!("usage: glint-bench [[--plain] --call NAME SIZE MAPPINGS COUNT]");
+            eprintln!("usage: glint-bench [[--plain] --call NAME SIZE RECORDS COUNT]");
             ExitCode::from(2)
         }
     }
@@ -26,15 +26,16 @@ fn main() -> ExitCode {
 fn call_alone(arguments: &[String]) -> Option<()> {
     let plain = arguments.first()? == "--plain";
     let rest = &arguments[plain as usize..];
-    let [option, name, size, held, count] = rest else {
+    let [option, name, size, records, count] = rest else {
         return None;
     };
-    let (size, held): (usize, usize) = (size.parse().ok()?, held.parse().ok()?);
+    let (size, records): (usize, usize) = (size.parse().ok()?, records.parse().ok()?);
     if option != "--call" {
         return None;
     }
     let mut measure = measures().into_iter().find(|measure| {
-        measure.call.name == name && measure.world.size == size && measure.held == held
+        let world = &measure.world;
+        measure.call.name == name && world.size == size && world.records.len() == records
     })?;
     let program = if plain {
         measure.call.plain

@@ -1,10 +1,11 @@
 //! What a Rust programmer would write for the same calls: the same checks in the same order, on
-//! the state by reference, run by run, with the standard library's copies and fills.
+//! state and records by reference, run by run, with the standard library's searches, copies and
+//! fills.
 
 use glintbasket::raw::{REGISTERS, SLOTS};
 use glintbasket::{
-    DeviceAddress, Mapping, MemoryAddress, Register, Registers, Rights, State, Table, DEVICE_LIMIT,
-    MAPPINGS, MEMORY_LIMIT, PAGE_SIZE, TRANSFER_LIMIT,
+    DeviceAddress, Mapping, MemoryAddress, Register, Registers, Rights, State, DEVICE_LIMIT,
+    MEMORY_LIMIT, PAGE_SIZE, RECORDS_LIMIT, TRANSFER_LIMIT,
 };
 
 #[derive(Clone, Copy, Debug, PartialEq, Eq)]
@@ -25,16 +26,21 @@ fn refuse<T>(code: u32) -> Answer<T> {
 
 // ---- refusal 1
 
-fn sound(state: &State) -> bool {
-    state.memory_length <= MEMORY_LIMIT as u64
-        && sound_table(&state.table, state.memory_length)
-        && sound_registers(&state.registers)
+fn sound(state: &State, records: &[Mapping]) -> bool {
+    state.card().is_some()
+        && state.memory_length <= MEMORY_LIMIT as u64
+        && sound_registers(state)
+        && sound_table(state, records)
 }
 
-fn sound_table(table: &Table, length: u64) -> bool {
-    let Some(held) = table.entries.get(..table.count) else {
+fn sound_table(state: &State, records: &[Mapping]) -> bool {
+    if records.len() > RECORDS_LIMIT {
+        return false;
+    }
+    let Some(held) = records.get(..state.count) else {
         return false;
     };
+    let length = state.memory_length;
     let mut low = 0;
     for m in held {
         if m.device.0 < low || !sound_mapping(m, length) {
@@ -62,19 +68,19 @@ fn end_of(m: &Mapping) -> u64 {
 
 const STATUS: usize = 5;
 
-fn sound_registers(registers: &Registers) -> bool {
-    let slots = &registers.slots;
+fn sound_registers(state: &State) -> bool {
+    let slots = &state.registers.slots;
     slots[STATUS].is_set()
         && slots
             .iter()
             .enumerate()
-            .all(|(slot, r)| !r.is_set() || good_content(slot + 1, &r.bytes).is_ok())
+            .all(|(slot, r)| !r.is_set() || good_content(state.words, slot + 1, &r.bytes).is_ok())
 }
 
-fn usable(state: &State, memory: &[u8], marks: &[u8]) -> bool {
+fn usable(state: &State, records: &[Mapping], memory: &[u8], marks: &[u8]) -> bool {
     memory.len().div_ceil(8) == marks.len()
         && memory.len() as u64 == state.memory_length
-        && sound(state)
+        && sound(state, records)
 }
 
 // ---- moves
@@ -90,20 +96,19 @@ fn check_range(device: DeviceAddress, length: usize) -> Answer<()> {
 }
 
 /// The held mappings from the first one on that ends past a device address.
-fn from(table: &Table, device: DeviceAddress) -> &[Mapping] {
-    let held = &table.entries[..table.count];
+fn from(held: &[Mapping], device: DeviceAddress) -> &[Mapping] {
     &held[held.partition_point(|m| end_of(m) <= device.0)..]
 }
 
 /// Calls `run` with the offset, the place in memory, the length and the rights of each run.
 fn runs(
-    table: &Table,
+    held: &[Mapping],
     device: DeviceAddress,
     length: usize,
     mut run: impl FnMut(usize, usize, usize, Rights) -> Answer<()>,
 ) -> Answer<()> {
     let mut offset = 0;
-    let mut mappings = from(table, device).iter();
+    let mut mappings = from(held, device).iter();
     while offset < length {
         let address = device.0 + offset as u64;
         let m = match mappings.next() {
@@ -167,30 +172,27 @@ fn set_written(marks: &mut [u8], place: usize, n: usize) {
 #[inline(never)]
 pub fn card_read(
     state: &State,
+    records: &[Mapping],
     memory: &[u8],
     marks: &[u8],
     device: DeviceAddress,
     buffer: &mut [u8],
 ) -> Answer<u64> {
-    if !usable(state, memory, marks) {
+    if !usable(state, records, memory, marks) {
         return refuse(1);
     }
     check_range(device, buffer.len())?;
-    runs(
-        &state.table,
-        device,
-        buffer.len(),
-        |offset, place, n, rights| {
-            if !rights.contains(Rights::READ) {
-                return at(15, offset as u64);
-            }
-            match first_unwritten(marks, place, n) {
-                Some(i) => at(16, (offset + i) as u64),
-                None => Ok(()),
-            }
-        },
-    )?;
-    runs(&state.table, device, buffer.len(), |offset, place, n, _| {
+    let held = &records[..state.count];
+    runs(held, device, buffer.len(), |offset, place, n, rights| {
+        if !rights.contains(Rights::READ) {
+            return at(15, offset as u64);
+        }
+        match first_unwritten(marks, place, n) {
+            Some(i) => at(16, (offset + i) as u64),
+            None => Ok(()),
+        }
+    })?;
+    runs(held, device, buffer.len(), |offset, place, n, _| {
         buffer[offset..offset + n].copy_from_slice(&memory[place..place + n]);
         Ok(())
     })?;
@@ -200,22 +202,24 @@ pub fn card_read(
 #[inline(never)]
 pub fn card_write(
     state: &State,
+    records: &[Mapping],
     memory: &mut [u8],
     marks: &mut [u8],
     device: DeviceAddress,
     bytes: &[u8],
 ) -> Answer<u64> {
-    if !usable(state, memory, marks) {
+    if !usable(state, records, memory, marks) {
         return refuse(1);
     }
     check_range(device, bytes.len())?;
-    runs(&state.table, device, bytes.len(), |offset, _, _, rights| {
+    let held = &records[..state.count];
+    runs(held, device, bytes.len(), |offset, _, _, rights| {
         if !rights.contains(Rights::WRITE) {
             return at(15, offset as u64);
         }
         Ok(())
     })?;
-    runs(&state.table, device, bytes.len(), |offset, place, n, _| {
+    runs(held, device, bytes.len(), |offset, place, n, _| {
         memory[place..place + n].copy_from_slice(&bytes[offset..offset + n]);
         set_written(marks, place, n);
         Ok(())
@@ -236,12 +240,13 @@ fn check_host(size: usize, address: MemoryAddress, length: usize) -> Answer<usiz
 #[inline(never)]
 pub fn host_store(
     state: &State,
+    records: &[Mapping],
     memory: &mut [u8],
     marks: &mut [u8],
     address: MemoryAddress,
     bytes: &[u8],
 ) -> Answer<u64> {
-    if !usable(state, memory, marks) {
+    if !usable(state, records, memory, marks) {
         return refuse(1);
     }
     let place = check_host(memory.len(), address, bytes.len())?;
@@ -253,12 +258,13 @@ pub fn host_store(
 #[inline(never)]
 pub fn host_load(
     state: &State,
+    records: &[Mapping],
     memory: &[u8],
     marks: &[u8],
     address: MemoryAddress,
     buffer: &mut [u8],
 ) -> Answer<u64> {
-    if !usable(state, memory, marks) {
+    if !usable(state, records, memory, marks) {
         return refuse(1);
     }
     let place = check_host(memory.len(), address, buffer.len())?;
@@ -270,14 +276,18 @@ pub fn host_load(
 }
 
 #[inline(never)]
-pub fn look_up(state: &State, device: DeviceAddress) -> Answer<(MemoryAddress, Rights)> {
-    if !sound(state) {
+pub fn look_up(
+    state: &State,
+    records: &[Mapping],
+    device: DeviceAddress,
+) -> Answer<(MemoryAddress, Rights)> {
+    if !sound(state, records) {
         return refuse(1);
     }
     if device.0 >= DEVICE_LIMIT {
         return refuse(9);
     }
-    match from(&state.table, device).first() {
+    match from(&records[..state.count], device).first() {
         Some(m) if m.device <= device => {
             let address = m.memory.0 + (device.0 - m.device.0);
             Ok((MemoryAddress(address), m.rights))
@@ -307,23 +317,24 @@ fn u64_at(buffer: &[u8], at: usize) -> u64 {
 #[inline(never)]
 pub fn request(
     state: &mut State,
+    records: &mut [Mapping],
     memory: &[u8],
     marks: &[u8],
     target: u32,
     number: u32,
     buffer: &mut [u8],
 ) -> Answer<u64> {
-    if !usable(state, memory, marks) {
+    if !usable(state, records, memory, marks) {
         return refuse(1);
     }
     match (target, number) {
         (0, 113) => {
             check_argsz(buffer, 32)?;
-            map(state, buffer)
+            map(state, records, buffer)
         }
         (0, 114) => {
             check_argsz(buffer, 24)?;
-            unmap(state, buffer)
+            unmap(state, records, buffer)
         }
         _ => refuse(2), // the others are not measured
     }
@@ -344,7 +355,7 @@ fn ends_within(start: u64, size: u64, limit: u64) -> bool {
     start <= limit && size <= limit - start
 }
 
-fn map(state: &mut State, buffer: &[u8]) -> Answer<u64> {
+fn map(state: &mut State, records: &mut [Mapping], buffer: &[u8]) -> Answer<u64> {
     let new = Mapping {
         rights: Rights(u32_at(buffer, 4)),
         memory: MemoryAddress(u64_at(buffer, 8)),
@@ -365,22 +376,21 @@ fn map(state: &mut State, buffer: &[u8]) -> Answer<u64> {
     {
         return refuse(9);
     }
-    let table = &mut state.table;
-    let held = &table.entries[..table.count];
+    let held = &records[..state.count];
     let place = held.partition_point(|m| end_of(m) <= new.device.0);
     if held.get(place).is_some_and(|m| m.device.0 < end_of(&new)) {
         return refuse(10);
     }
-    if table.count == MAPPINGS {
+    if state.count == records.len() {
         return refuse(11);
     }
-    table.entries.copy_within(place..table.count, place + 1);
-    table.entries[place] = new;
-    table.count += 1;
+    records.copy_within(place..state.count, place + 1);
+    records[place] = new;
+    state.count += 1;
     Ok(0)
 }
 
-fn unmap(state: &mut State, buffer: &mut [u8]) -> Answer<u64> {
+fn unmap(state: &mut State, records: &mut [Mapping], buffer: &mut [u8]) -> Answer<u64> {
     let (device, size) = (u64_at(buffer, 8), u64_at(buffer, 16));
     if u32_at(buffer, 4) != 0 {
         return refuse(5);
@@ -394,8 +404,7 @@ fn unmap(state: &mut State, buffer: &mut [u8]) -> Answer<u64> {
     if !ends_within(device, size, DEVICE_LIMIT) {
         return refuse(9);
     }
-    let table = &mut state.table;
-    let held = &table.entries[..table.count];
+    let held = &records[..state.count];
     let end = device + size;
     let first = held.partition_point(|m| end_of(m) <= device);
     let past = held.partition_point(|m| m.device.0 < end);
@@ -406,19 +415,21 @@ fn unmap(state: &mut State, buffer: &mut [u8]) -> Answer<u64> {
         }
     }
     let removed: u64 = inside.iter().map(|m| m.size).sum();
-    table.entries.copy_within(past..table.count, first);
-    table.count -= past - first;
+    records.copy_within(past..state.count, first);
+    state.count -= past - first;
     buffer[16..24].copy_from_slice(&removed.to_le_bytes());
     Ok(0)
 }
 
 // ---- registers and parts
 
-const OFFERED: u64 = 0x1_3000_0000;
+/// The words of features that are offered; the first card has the first of them alone.
+const OFFERED: [u64; 2] = [0x1_3000_0000, 1];
 const HEADER: usize = 16;
 const ROWS: usize = REGISTERS + 1;
 
-/// Type, selector and size of each register; row 0 is offered features, row `i + 1` slot `i`.
+/// Type, selector and size of each register; row 0 is offered features, row `i + 1` slot `i`. Features
+/// have the size of the first card: see [`size_of`].
 const TABLE: [(u16, u64, usize); ROWS] = {
     let mut table = [(0x100, 0, 8); ROWS];
     let mut slot = 0;
@@ -430,11 +441,24 @@ const TABLE: [(u16, u64, usize); ROWS] = {
     table
 };
 
+/// The size of a row's value on a card.
+fn size_of(words: u8, row: usize) -> usize {
+    match row {
+        0 | 1 => 8 * usize::from(words),
+        _ => TABLE[row].2,
+    }
+}
+
+/// Whether a test holds of each word of features and what is offered there.
+fn each_word(words: u8, v: &[u8], test: impl Fn(u64, u64) -> bool) -> bool {
+    (0..usize::from(words)).all(|i| test(u64_at(v, 8 * i), OFFERED[i]))
+}
+
 /// What a value of the right length must satisfy. `v` may have more bytes behind it.
-fn good_content(row: usize, v: &[u8]) -> Answer<()> {
+fn good_content(words: u8, row: usize, v: &[u8]) -> Answer<()> {
     let good = match row {
-        0 if u64_at(v, 0) != OFFERED => return refuse(23),
-        1 if u64_at(v, 0) & !OFFERED != 0 => return refuse(23),
+        0 if !each_word(words, v, |word, offered| word == offered) => return refuse(23),
+        1 if !each_word(words, v, |word, offered| word & !offered == 0) => return refuse(23),
         7..=10 => good_queue(v),
         11..=14 => u32_at(v, 4) == 0,
         _ => true,
@@ -447,10 +471,10 @@ fn good_content(row: usize, v: &[u8]) -> Answer<()> {
 }
 
 fn good_queue(v: &[u8]) -> bool {
-    let size = u16_at(v, 0);
-    size.is_power_of_two()
+    let (size, enabled) = (u16_at(v, 0), u16_at(v, 4));
+    (size.is_power_of_two() || size == 0 && enabled == 0)
         && size <= 256
-        && u16_at(v, 4) <= 1
+        && enabled <= 1
         && u16_at(v, 6) == 0
         && u64_at(v, 8).is_multiple_of(16)
         && u64_at(v, 16).is_multiple_of(2)
@@ -458,8 +482,8 @@ fn good_queue(v: &[u8]) -> bool {
 }
 
 #[inline(never)]
-pub fn save_parts(state: &State, buffer: &mut [u8]) -> Answer<u64> {
-    if !sound(state) {
+pub fn save_parts(state: &State, records: &[Mapping], buffer: &mut [u8]) -> Answer<u64> {
+    if !sound(state, records) {
         return refuse(1);
     }
     if state.is_running() {
@@ -469,17 +493,20 @@ pub fn save_parts(state: &State, buffer: &mut [u8]) -> Answer<u64> {
     let set = |row: usize| row == 0 || slots[row - 1].is_set();
     let length: usize = (0..ROWS)
         .filter(|row| set(*row))
-        .map(|row| HEADER + TABLE[row].2)
+        .map(|row| HEADER + size_of(state.words, row))
         .sum();
     if buffer.len() < length {
         return refuse(27);
     }
-    let offered = OFFERED.to_le_bytes();
+    let mut offered = [0; 16];
+    offered[..8].copy_from_slice(&OFFERED[0].to_le_bytes());
+    offered[8..].copy_from_slice(&OFFERED[1].to_le_bytes());
     let mut rest = &mut buffer[..length];
     for row in (0..ROWS).filter(|row| set(*row)) {
-        let (kind, selector, size) = TABLE[row];
+        let (kind, selector, _) = TABLE[row];
+        let size = size_of(state.words, row);
         let value = if row == 0 {
-            &offered[..]
+            &offered[..size]
         } else {
             &slots[row - 1].bytes[..size]
         };
@@ -496,8 +523,8 @@ pub fn save_parts(state: &State, buffer: &mut [u8]) -> Answer<u64> {
 }
 
 #[inline(never)]
-pub fn load_parts(state: &mut State, stream: &[u8]) -> Answer<u64> {
-    if !sound(state) {
+pub fn load_parts(state: &mut State, records: &[Mapping], stream: &[u8]) -> Answer<u64> {
+    if !sound(state, records) {
         return refuse(1);
     }
     if state.is_running() {
@@ -520,7 +547,7 @@ pub fn load_parts(state: &mut State, stream: &[u8]) -> Answer<u64> {
         let Some(row) = row_of(&part).map_err(place)? else {
             continue;
         };
-        let (_, _, size) = TABLE[row];
+        let size = size_of(state.words, row);
         if part.value.len() != size {
             return at(22, start);
         }
@@ -532,7 +559,7 @@ pub fn load_parts(state: &mut State, stream: &[u8]) -> Answer<u64> {
         if seen {
             return at(21, start);
         }
-        good_content(row, part.value).map_err(place)?;
+        good_content(state.words, row, part.value).map_err(place)?;
         if row == 0 {
             offered_seen = true;
         } else {
@@ -600,24 +627,4 @@ fn row_of(part: &Part) -> Answer<Option<usize>> {
         _ => return refuse(6),
     };
     Ok(Some(row))
-}
-
-/// The request as the emulator's interface has it: the state goes in by value and comes back by value.
-/// It is called by a pointer that the compiler cannot see through, or it would pass references.
-pub mod by_value {
-    use super::{Answer, State};
-
-    pub type Request = fn(State, &[u8], &[u8], u32, u32, &mut [u8]) -> (State, Answer<u64>);
-
-    pub fn request(
-        mut state: State,
-        memory: &[u8],
-        marks: &[u8],
-        target: u32,
-        number: u32,
-        buffer: &mut [u8],
-    ) -> (State, Answer<u64>) {
-        let answer = super::request(&mut state, memory, marks, target, number, buffer);
-        (state, answer)
-    }
 }

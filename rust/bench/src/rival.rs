@@ -70,8 +70,7 @@ fn shown(kind: Move, world: &World) -> Vec<(u64, &[u8])> {
     if !of_card(kind) {
         return vec![(0, memory)];
     }
-    let table = &world.state.table;
-    let held = table.entries[..table.count].iter();
+    let held = world.records[..world.held].iter();
     held.map(|m| {
         (
             m.device.0,
@@ -146,8 +145,10 @@ mod tests {
     /// Whether it is let in to every move, or kept out of every one.
     fn let_in<M: Memory + 'static>() -> Option<bool> {
         let rival = Rival::new::<M>("listed");
+        // A list of what thousands of mappings show would be long, and tell no more.
         let mut answers = measures()
             .into_iter()
+            .filter(|m| m.world.held <= 64)
             .filter_map(|mut m| Some(rival.program(m.call.moves?, &mut m.world).is_some()));
         let first = answers.next()?;
         answers.all(|answer| answer == first).then_some(first)

@@ -3,7 +3,9 @@
 use std::hint::black_box;
 
 use glintbasket::raw::{self, SLOTS};
-use glintbasket::{kind, marks_len, Bench, DeviceAddress, MemoryAddress, Rights, State};
+use glintbasket::{
+    kind, marks_len, Bench, DeviceAddress, Mapping, MemoryAddress, Rights, State, RECORDS_LIMIT,
+};
 
 pub const PAGE: usize = 4096;
 const PAGES: usize = 64;
@@ -11,7 +13,7 @@ const PAGES: usize = 64;
 const DEVICE: u64 = 0x1_0000_0000;
 const BOTH: Rights = Rights(3);
 /// A device address above those of all mappings.
-const SPARE: u64 = DEVICE + (2 * PAGES * PAGE) as u64;
+const SPARE: u64 = DEVICE + (2 * RECORDS_LIMIT * PAGE) as u64;
 
 /// Bytes that begin on a page, so that every run of the program meets the same alignment.
 pub struct Aligned {
@@ -43,9 +45,10 @@ impl Aligned {
     }
 }
 
-/// A state with memory, marks and a buffer, and the arguments of the call that is measured.
+/// A state with records, memory, marks and a buffer, and the arguments of the call that is measured.
 pub struct World {
     pub state: State,
+    pub records: Vec<Mapping>,
     pub memory: Aligned,
     pub marks: Aligned,
     pub buffer: Aligned,
@@ -60,16 +63,25 @@ pub struct World {
 }
 
 impl World {
-    /// 64 pages, all written; every register set. `held` mappings adjoin in device addresses and
-    /// lie scattered in memory, each of one page, but for a single one, which shows all of it.
-    /// A move of `size` bytes goes to the middle of what they show.
-    pub fn new(held: usize, size: usize) -> World {
+    /// A world whose every record is in use.
+    pub fn full(records: usize, size: usize) -> World {
+        World::new(records, records, size)
+    }
+
+    /// 64 pages, all written; every register set; so many records. `held` mappings adjoin in device
+    /// addresses and lie scattered in memory, each of one page, but for a single one, which shows all
+    /// of it. A move of `size` bytes goes to the middle of what they show.
+    pub fn new(records: usize, held: usize, size: usize) -> World {
         let mut memory = Aligned::filled(PAGES * PAGE, 0);
         for (i, byte) in memory.get_mut().iter_mut().enumerate() {
             *byte = (i % 251) as u8;
         }
         let mut marks = Aligned::filled(marks_len(PAGES * PAGE), 255);
-        let mut bench = Bench::new(memory.get_mut(), marks.get_mut()).expect("a fresh start");
+        let mut records = vec![Mapping::default(); records];
+        let mut bench = Bench::builder()
+            .records(&mut records)
+            .lend(memory.get_mut(), marks.get_mut())
+            .expect("a fresh start");
         // A single mapping shows all memory, and each of several one page.
         let pages = if held == 1 { PAGES } else { 1 };
         hold(&mut bench, held, pages);
@@ -80,6 +92,7 @@ impl World {
         let start = shown.saturating_sub(size.div_ceil(PAGE)) / 2;
         World {
             state,
+            records,
             memory,
             marks,
             buffer: Aligned::filled(PAGES * PAGE, 0),
@@ -88,14 +101,17 @@ impl World {
             address: MemoryAddress((PAGES / 4 * PAGE) as u64),
             size,
             map: map_request(SPARE),
-            unmap: unmap_request(DEVICE + (shown.saturating_sub(1) * PAGE) as u64),
+            unmap: unmap_request(
+                DEVICE + (held.saturating_sub(1) * PAGE) as u64,
+                pages * PAGE,
+            ),
         }
     }
 
     /// Leaves only status set.
     pub fn reset(mut self) -> World {
         let (memory, marks) = (self.memory.get_mut(), self.marks.get_mut());
-        let mut bench = Bench::resume(memory, marks, self.state);
+        let mut bench = Bench::resume(self.state, &mut self.records, memory, marks);
         bench.reset().expect("a reset");
         self.state = *bench.state();
         self
@@ -103,7 +119,7 @@ impl World {
 
     /// Puts the stream that saves the registers into the buffer, and notes its length.
     pub fn saved(mut self) -> World {
-        let outcome = raw::save_parts(&self.state, self.buffer.get_mut());
+        let outcome = raw::save_parts(&self.state, &self.records, self.buffer.get_mut());
         assert!(!outcome.refused);
         self.size = outcome.result as usize;
         self
@@ -112,7 +128,7 @@ impl World {
     /// The map goes below all others, so that all of them move up.
     pub fn at_the_front(mut self) -> World {
         self.map = map_request(0);
-        self.unmap = unmap_request(0);
+        self.unmap = unmap_request(0, PAGE);
         self
     }
 }
@@ -156,11 +172,10 @@ fn map_request(device: u64) -> [u8; 32] {
     buffer
 }
 
-/// An unmap of one page.
-fn unmap_request(device: u64) -> [u8; 24] {
+fn unmap_request(device: u64, size: usize) -> [u8; 24] {
     let mut buffer = [0; 24];
     buffer[..4].copy_from_slice(&24u32.to_le_bytes());
     buffer[8..16].copy_from_slice(&device.to_le_bytes());
-    buffer[16..].copy_from_slice(&(PAGE as u64).to_le_bytes());
+    buffer[16..].copy_from_slice(&(size as u64).to_le_bytes());
     buffer
 }

@@ -2,7 +2,35 @@
 
 use std::fmt;
 
-use glintbasket::{Card, State};
+use glintbasket::{Card, Mapping, State};
+
+/// A state, and the records that are lent beside it.
+#[derive(Clone, Debug, PartialEq, Eq)]
+pub struct Kept {
+    pub state: State,
+    pub records: Vec<Mapping>,
+}
+
+impl Kept {
+    /// The records in use, as far as there are so many.
+    pub fn mappings(&self) -> &[Mapping] {
+        &self.records[..self.state.count.min(self.records.len())]
+    }
+
+    /// The records past the count.
+    pub fn stale_mut(&mut self) -> &mut [Mapping] {
+        let used = self.mappings().len();
+        &mut self.records[used..]
+    }
+}
+
+/// How much is lent: how many records, and how many bytes of memory and of marks.
+#[derive(Clone, Copy, Debug, PartialEq, Eq)]
+pub struct Lent {
+    pub records: usize,
+    pub memory: usize,
+    pub marks: usize,
+}
 
 /// A call but for its buffer.
 #[derive(Clone, Copy, Debug, PartialEq, Eq)]
@@ -58,8 +86,18 @@ pub enum Step {
     PastEnd {
         seed: u64,
     },
-    /// The kept state becomes this one.
-    Install(Box<State>),
+    /// Others write stale records: each program its own, by this seed.
+    Stale {
+        seed: u64,
+    },
+    /// The records become another slice, of this length, that begins with those in use; the others
+    /// are made by this seed.
+    Exchange {
+        length: usize,
+        seed: u64,
+    },
+    /// The kept state and the records become these.
+    Install(Box<Kept>),
 }
 
 /// A call with all that it is given.
@@ -67,11 +105,20 @@ pub enum Step {
 pub struct Made {
     pub call: Call,
     pub buffer: Vec<u8>,
-    /// How many bytes of memory and of marks are lent.
-    pub lent: (usize, usize),
-    /// A state to give in place of the kept one. What the call makes of it is kept only if a fresh
-    /// start is accepted.
-    pub given: Option<State>,
+    pub lent: Lent,
+    /// A state and records, all of them lent, to give in place of the kept ones. What the call makes
+    /// of them is kept only if a fresh start is accepted.
+    pub given: Option<Kept>,
+}
+
+impl Made {
+    /// How many records are lent.
+    pub fn records(&self) -> usize {
+        match &self.given {
+            Some(kept) => kept.records.len(),
+            None => self.lent.records,
+        }
+    }
 }
 
 impl Call {
@@ -121,10 +168,11 @@ impl fmt::Display for Step {
                     write!(f, "; {length} bytes: {}", Hex(&made.buffer))?;
                 }
                 if made.call.takes_memory() {
-                    write!(f, "; lent {} and {}", made.lent.0, made.lent.1)?;
+                    write!(f, "; lent {} and {}", made.lent.memory, made.lent.marks)?;
                 }
-                if let Some(state) = &made.given {
-                    write!(f, "; on {}", Shown(state))?;
+                match &made.given {
+                    Some(kept) => write!(f, "; on {}", Shown(kept))?,
+                    None => write!(f, "; {} records", made.lent.records)?,
                 }
                 Ok(())
             }
@@ -134,7 +182,11 @@ impl fmt::Display for Step {
             Step::PastEnd { seed } => {
                 write!(f, "the bits past the end become others by {seed:#x}")
             }
-            Step::Install(state) => write!(f, "the state becomes {}", Shown(state)),
+            Step::Stale { seed } => write!(f, "others write stale records by {seed:#x}"),
+            Step::Exchange { length, seed } => {
+                write!(f, "the records become {length} others by {seed:#x}")
+            }
+            Step::Install(kept) => write!(f, "the state becomes {}", Shown(kept)),
         }
     }
 }
@@ -155,16 +207,23 @@ impl fmt::Display for Hex<'_> {
 }
 
 /// What a state means, in one line.
-struct Shown<'a>(&'a State);
+struct Shown<'a>(&'a Kept);
 
 impl fmt::Display for Shown<'_> {
     fn fmt(&self, f: &mut fmt::Formatter) -> fmt::Result {
-        let state = self.0;
-        let count = state.table.count;
-        write!(f, "[length {:#x}, {count} mappings", state.memory_length)?;
-        for m in state.table.entries.iter().take(count) {
+        let (state, mappings) = (&self.0.state, self.0.mappings());
+        let (count, length) = (state.count, self.0.records.len());
+        write!(
+            f,
+            "[length {:#x}, {count} mappings in {length} records",
+            state.memory_length
+        )?;
+        for m in mappings.iter().take(66) {
             let (device, memory) = (m.device.0, m.memory.0);
             write!(f, " {device:x}->{memory:x}+{:x}/{}", m.size, m.rights.0)?;
+        }
+        if mappings.len() > 66 {
+            write!(f, " ..")?;
         }
         write!(f, ", registers")?;
         for (slot, register) in state.registers.slots.iter().enumerate() {

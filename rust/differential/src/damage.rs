@@ -2,8 +2,9 @@
 
 use std::fmt::Write;
 
-use glintbasket::{DeviceAddress, Mapping, MemoryAddress, Rights, State};
+use glintbasket::{DeviceAddress, Mapping, MemoryAddress, Rights, RECORDS_LIMIT};
 
+use crate::call::Kept;
 use crate::random::Random;
 use crate::streams;
 
@@ -13,8 +14,8 @@ const MEMORY_LIMIT: u64 = 1 << 30;
 
 /// The causes: what rule 1.12 rules out.
 #[rustfmt::skip]
-pub const CAUSES: [&str; 21] = [
-    "more than 64 mappings",
+pub const CAUSES: [&str; 22] = [
+    "a count above the records",
     "mappings out of order",
     "mappings that overlap",
     "one mapping twice",
@@ -35,6 +36,7 @@ pub const CAUSES: [&str; 21] = [
     "enabled queue of size 0",
     "no such card",
     "notify value",
+    "more than 4,096 records",
 ];
 
 #[derive(Default)]
@@ -74,13 +76,14 @@ impl Damages {
 
 /// The state with one thing wrong, and the index of the cause. Where that needs mappings, it has
 /// two at least.
-pub fn damaged(sound: &State, random: &mut Random) -> (usize, State) {
-    let mut state = *sound;
+pub fn damaged(sound: &Kept, random: &mut Random) -> (usize, Kept) {
+    let mut kept = sound.clone();
+    let Kept { state, records } = &mut kept;
     let cause = random.below(CAUSES.len() as u64) as usize;
-    let table = &mut state.table;
-    if cause < 14 && table.count < 2 {
-        table.count = 2;
-        for (i, m) in table.entries[..2].iter_mut().enumerate() {
+    if cause < 14 && state.count < 2 {
+        state.count = 2;
+        records.resize(records.len().max(2), Mapping::default());
+        for (i, m) in records[..2].iter_mut().enumerate() {
             *m = Mapping {
                 device: DeviceAddress((i as u64 + 1) * PAGE),
                 memory: MemoryAddress(0),
@@ -89,43 +92,48 @@ pub fn damaged(sound: &State, random: &mut Random) -> (usize, State) {
             };
         }
     }
-    let last = table.count.clamp(1, 64) - 1;
+    // Of the mappings: the last, any, and one that is not the last.
+    let last = state.count.max(2) - 1;
     let i = random.below(last as u64 + 1) as usize;
-    let m = &mut table.entries[i];
+    let j = random.below(last as u64) as usize;
     match CAUSES[cause] {
-        "more than 64 mappings" => table.count = random.pick(&[65, 66, 128, 1 << 32, usize::MAX]),
-        "mappings out of order" => {
-            let j = random.below(last as u64) as usize;
-            table.entries.swap(j, j + 1);
+        "a count above the records" => {
+            state.count = match random.below(4) {
+                0 => random.pick(&[RECORDS_LIMIT, RECORDS_LIMIT + 1, 1 << 32, usize::MAX]),
+                more => records.len() + more as usize,
+            }
+            .max(records.len() + 1);
         }
+        "mappings out of order" => records.swap(j, j + 1),
         "mappings that overlap" => {
-            let j = random.below(last as u64) as usize;
-            let next = table.entries[j + 1].device.0;
-            let m = &mut table.entries[j];
-            m.size = next - m.device.0 + PAGE;
+            let next = records[j + 1].device.0;
+            records[j].size = next - records[j].device.0 + PAGE;
         }
-        "one mapping twice" => {
-            let j = random.below(last as u64) as usize;
-            table.entries[j + 1] = table.entries[j];
+        "one mapping twice" => records[j + 1] = records[j],
+        "device address not aligned" => records[i].device.0 ^= 1 << random.below(12),
+        "memory address not aligned" => records[i].memory.0 ^= 1 << random.below(12),
+        "size not aligned" => records[i].size ^= 1 << random.below(12),
+        "size 0" => records[i].size = 0,
+        "rights 0" => records[i].rights.0 = 0,
+        "rights above 3" => {
+            records[i].rights.0 = random.pick(&[4, 5, 7, 0x103, 0x8000_0001, u32::MAX])
         }
-        "device address not aligned" => m.device.0 ^= 1 << random.below(12),
-        "memory address not aligned" => m.memory.0 ^= 1 << random.below(12),
-        "size not aligned" => m.size ^= 1 << random.below(12),
-        "size 0" => m.size = 0,
-        "rights 0" => m.rights.0 = 0,
-        "rights above 3" => m.rights.0 = random.pick(&[4, 5, 7, 0x103, 0x8000_0001, u32::MAX]),
         "ends past 2^48" => {
-            let m = &mut table.entries[last];
+            let m = &mut records[last];
             m.device.0 = TOP - m.size + PAGE;
         }
         "device end wraps" => {
-            let m = &mut table.entries[last];
+            let m = &mut records[last];
             m.device.0 = 0u64.wrapping_sub(m.size);
         }
         "ends past the noted length" => {
+            let m = &mut records[i];
             m.memory.0 = (state.memory_length / PAGE * PAGE + PAGE).saturating_sub(m.size);
         }
-        "memory end wraps" => m.memory.0 = 0u64.wrapping_sub(m.size),
+        "memory end wraps" => {
+            let m = &mut records[i];
+            m.memory.0 = 0u64.wrapping_sub(m.size);
+        }
         "noted length above 2^30" => {
             state.memory_length = random.pick(&[MEMORY_LIMIT + 1, MEMORY_LIMIT + PAGE, u64::MAX]);
         }
@@ -171,7 +179,12 @@ pub fn damaged(sound: &State, random: &mut Random) -> (usize, State) {
             register.set = 1;
             register.bytes[4 + random.below(4) as usize] = random.pick(&[1, 128]);
         }
+        // The records behind are stale.
+        "more than 4,096 records" => {
+            let length = RECORDS_LIMIT + random.pick(&[1, 1, 2, 64]);
+            records.resize(length, Mapping::default());
+        }
         _ => unreachable!(),
     }
-    (cause, state)
+    (cause, kept)
 }

@@ -14,7 +14,7 @@ const TOP: u64 = 1 << 48;
 const LONGEST: usize = 65_536;
 
 #[rustfmt::skip]
-pub const EVENTS: [&str; 48] = [
+pub const EVENTS: [&str; 70] = [
     "card read of 65,536 bytes accepted",
     "card write of 65,536 bytes accepted",
     "host store of 65,536 bytes accepted",
@@ -63,6 +63,28 @@ pub const EVENTS: [&str; 48] = [
     "host store up to the end, with a bit clear past it",
     "forget up to the end, with a bit set past it",
     "host store inside one mark byte",
+    "map refused for want of room with 0 records",
+    "map refused for want of room with 1 record",
+    "map refused for want of room with 63 records",
+    "map refused for want of room with 64 records",
+    "map refused for want of room with 65 records",
+    "map refused for want of room with 4,095 records",
+    "map refused for want of room with 4,096 records",
+    "map into the last of 1 record accepted",
+    "map into the last of 63 records accepted",
+    "map into the last of 64 records accepted",
+    "map into the last of 65 records accepted",
+    "map into the last of 4,095 records accepted",
+    "map into the last of 4,096 records accepted",
+    "fresh start with no record accepted",
+    "fresh start with 4,096 records accepted",
+    "fresh start with 4,097 records gives 1",
+    "request with 4,097 records gives 1",
+    "request with one record fewer than are in use gives 1",
+    "card move with as many records as are in use accepted",
+    "card move with other records than at the last call accepted",
+    "unmap below mappings that stay, with stale records behind them",
+    "look-up among 4,096 mappings accepted",
 ];
 
 const FEW_MARKS: usize = 34;
@@ -72,6 +94,19 @@ const LENGTHS: usize = 37;
 const STORE_TO_END: usize = 45;
 const FORGET_TO_END: usize = 46;
 const STORE_WITHIN: usize = 47;
+/// Of a map that finds no room, and of one that takes the last record: by the number of records.
+const NO_ROOM: usize = 48;
+const LAST_RECORD: usize = 54;
+const RECORDS: [usize; 7] = [0, 1, 63, 64, 65, 4095, 4096];
+const START_WITH_NONE: usize = 61;
+const START_WITH_ALL: usize = 62;
+const START_WITH_MORE: usize = 63;
+const REQUEST_WITH_MORE: usize = 64;
+const TOO_FEW_RECORDS: usize = 65;
+const JUST_ENOUGH: usize = 66;
+const EXCHANGED: usize = 67;
+const MOVED_DOWN: usize = 68;
+const LOOK_UP_AMONG_ALL: usize = 69;
 
 pub struct Events {
     counts: [u64; EVENTS.len()],
@@ -97,6 +132,8 @@ pub struct Before {
     encloses: bool,
     /// Of a map: how many held mappings lie below it.
     below: usize,
+    /// Whether the records are others than at the last call.
+    exchanged: bool,
     /// The flags of the kept struct: whether the one for running is above 1, and whether each register's is.
     running_above: bool,
     set_above: [bool; SLOTS.len()],
@@ -114,10 +151,11 @@ impl Events {
     pub fn before(step: &Step, trio: &Trio) -> Before {
         let state = &trio.state;
         let mut before = Before {
-            held: state.mappings.len(),
+            held: state.mappings().len(),
             registers: state.registers.len(),
-            running_above: trio.kept().running > 1,
-            set_above: trio.kept().registers.slots.map(|r| r.set > 1),
+            exchanged: trio.exchanged,
+            running_above: trio.kept().state.running > 1,
+            set_above: trio.kept().state.registers.slots.map(|r| r.set > 1),
             ..Before::default()
         };
         let Step::Make(made) = step else {
@@ -131,7 +169,7 @@ impl Events {
                     end,
                 };
                 let met: Vec<_> = state
-                    .mappings
+                    .mappings()
                     .iter()
                     .filter(|m| range.first < range.end && m.shares_with(range))
                     .collect();
@@ -146,11 +184,11 @@ impl Events {
                 let device = u128::from(number_at(&made.buffer, 16, 8));
                 let end = device + u128::from(number_at(&made.buffer, 24, 8));
                 before.encloses = state
-                    .mappings
+                    .mappings()
                     .iter()
                     .any(|m| device < m.range().first && m.range().end < end);
                 before.below = state
-                    .mappings
+                    .mappings()
                     .iter()
                     .filter(|m| m.range().first < device)
                     .count();
@@ -172,12 +210,18 @@ impl Events {
             _ => 0,
         };
         let done = !matches!(answer, Answer::Refused { .. });
+        let (records, held) = (made.lent.records, before.held);
+        let by_records = RECORDS.iter().position(|length| *length == records);
         // The bits past the end, as the call left them.
         let past: Vec<bool> = trio.bits_past_end();
         match made.call {
             Call::FreshStart { .. } => {
                 self.saw(30, done && trio.state.words == 2);
-                let (memory, marks) = made.lent;
+                let (memory, marks) = (made.lent.memory, made.lent.marks);
+                self.saw(START_WITH_NONE, done && records == 0);
+                self.saw(START_WITH_ALL, done && records == 4096);
+                let good = marks == mark_bytes(memory);
+                self.saw(START_WITH_MORE, refused == 1 && records == 4097 && good);
                 self.saw(23, done && past.contains(&true));
                 self.saw(FEW_MARKS, refused == 1 && marks + 1 == mark_bytes(memory));
                 self.saw(MANY_MARKS, refused == 1 && marks == mark_bytes(memory) + 1);
@@ -190,13 +234,19 @@ impl Events {
                 self.saw(1, done && write && length == LONGEST);
                 self.saw(4, done && length == 0 && device == TOP);
                 self.saw(7, done && before.met > 1);
+                self.saw(JUST_ENOUGH, done && length > 0 && records == held);
+                self.saw(EXCHANGED, done && length > 0 && before.exchanged);
                 self.saw(8, done && write && before.twice);
                 if let Answer::Refused {
                     code: 14..=16,
                     place,
                 } = answer
                 {
-                    let first = trio.state.mappings.iter().find(|m| m.holds(device.into()));
+                    let first = trio
+                        .state
+                        .mappings()
+                        .iter()
+                        .find(|m| m.holds(device.into()));
                     let left = first.map_or(u128::MAX, |m| m.range().end - u128::from(device));
                     self.saw(9, u128::from(*place) >= left);
                 }
@@ -243,17 +293,28 @@ impl Events {
                 self.saw(12, done && device.checked_add(size) == Some(TOP));
                 self.saw(13, done && before.held == 63);
                 self.saw(14, done && before.below > 0 && before.below < before.held);
+                let good = made.lent.memory as u64 == noted;
+                self.saw(REQUEST_WITH_MORE, refused == 1 && records == 4097 && good);
+                self.saw(TOO_FEW_RECORDS, refused == 1 && records + 1 == held && good);
+                if let Some(i) = by_records {
+                    self.saw(NO_ROOM + i, refused == 11);
+                    self.saw(LAST_RECORD + i, done && i > 0 && held + 1 == records);
+                }
             }
             Call::Request {
                 target: 0,
                 number: 114,
             } if length >= 24 => {
                 let (device, size) = (field(8), field(16));
-                let removed = before.held - trio.state.mappings.len();
+                let left = trio.state.mappings();
+                let removed = held - left.len();
+                let above = left.iter().any(|m| m.device.0 > device);
                 self.saw(15, done && device == 0 && size == TOP);
                 self.saw(16, done && removed > 1);
                 self.saw(17, done && removed == 0);
+                self.saw(MOVED_DOWN, done && removed > 0 && above && held < records);
             }
+            Call::LookUp { .. } => self.saw(LOOK_UP_AMONG_ALL, done && held == 4096),
             Call::LoadParts => {
                 self.saw(18, done && length == LONGEST);
                 self.saw(19, done && trio.state.registers.len() < before.registers);

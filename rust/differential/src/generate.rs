@@ -2,24 +2,32 @@
 
 use glint_reference::bench::{mark_bytes, PAGE};
 use glintbasket::raw::SLOTS;
-use glintbasket::{Card, DeviceAddress, Mapping, MemoryAddress, Register, Rights, State, MAPPINGS};
+use glintbasket::{
+    Card, DeviceAddress, Mapping, MemoryAddress, Register, Rights, State, RECORDS_LIMIT,
+};
 
-use crate::call::{Call, Made, Step};
+use crate::call::{Call, Kept, Lent, Made, Step};
 use crate::damage::{self, Damages};
 use crate::random::Random;
 use crate::streams;
-use crate::trio::{garble, Trio};
+use crate::trio::{garble, Size, Trio};
 
 const TOP: u64 = 1 << 48;
 /// The longest move and stream.
 const LONGEST: usize = 65_536;
 /// Bytes behind the noted length that may be lent as well.
 const BEYOND: usize = 64;
+/// Most lists have no more records than these.
+const FEW: usize = 66;
+/// More records than may be lent.
+const MANY: usize = RECORDS_LIMIT + 2;
 
 pub struct Generator {
     pub random: Random,
     /// The memory's length at the list's first fresh start.
     length: usize,
+    /// How many records there are to lend at first.
+    records: usize,
     steps: usize,
     /// What comes next, whatever else would.
     pending: Option<Step>,
@@ -37,18 +45,32 @@ impl Generator {
             24..=30 => 8192 + random.below(8) as usize,
             _ => random.pick(&[12288, 16384, 20480]),
         };
+        // Thousands of records take their time, and long moves over them more of it.
+        let (records, length) = match random.below(80) {
+            0..=1 => (0, length),
+            2..=3 => (1, length),
+            4..=5 => (63, length),
+            6..=7 => (65, length),
+            8..=11 => (random.pick(&[2, 3, 16, 17]), length),
+            12 => (random.pick(&[RECORDS_LIMIT - 1, MANY, MANY]), 8192),
+            _ => (64, length),
+        };
         Generator {
             random,
             length,
+            records,
             steps: 0,
             pending: None,
             damages: Damages::default(),
         }
     }
 
-    /// How much memory the list needs.
-    pub fn capacity(&self) -> usize {
-        self.length + BEYOND
+    /// How much the list needs.
+    pub fn size(&self) -> Size {
+        Size {
+            records: self.records,
+            memory: self.length + BEYOND,
+        }
     }
 
     /// The next step, for programs that stand like this.
@@ -60,7 +82,7 @@ impl Generator {
         match self.steps {
             1 => {
                 let card = self.card();
-                return self.lend(Call::FreshStart { card }, Vec::new(), self.length);
+                return self.lend(trio, Call::FreshStart { card }, Vec::new(), self.length);
             }
             2 if self.random.below(3) > 0 => return self.install(trio),
             3 if self.random.below(2) > 0 => return self.store_all(trio),
@@ -72,7 +94,13 @@ impl Generator {
                 seed: self.random.number(),
             },
             22..=33 => self.install(trio),
+            // A list fills thousands of records by no other way.
+            74..=113 if trio.records() > FEW => self.install(trio),
             34..=37 => self.store_all(trio),
+            58..=63 => Step::Stale {
+                seed: self.random.number(),
+            },
+            64..=73 => self.exchange(trio),
             38..=57 if trio.capacity() > LONGEST => {
                 // Behind a store, so that a read finds all written.
                 let (call, buffer) = self.long_move(trio);
@@ -86,40 +114,58 @@ impl Generator {
         }
     }
 
-    /// The call on the kept state, with memory of this length and its marks.
-    fn lend(&mut self, call: Call, buffer: Vec<u8>, length: usize) -> Step {
+    /// The call on the kept state, with all records that may be lent, memory of this length and its
+    /// marks.
+    fn lend(&mut self, trio: &Trio, call: Call, buffer: Vec<u8>, length: usize) -> Step {
         Step::Make(Box::new(Made {
             call,
             buffer,
-            lent: (length, mark_bytes(length)),
+            lent: lent(trio, length),
             given: None,
         }))
     }
 
     /// The call, mostly on the kept state with memory of the noted length and its marks.
     fn made(&mut self, trio: &Trio, call: Call, buffer: Vec<u8>) -> Step {
-        let noted = (trio.state.noted_length as usize).min(trio.capacity());
+        let noted = noted(trio);
         let mut made = Made {
             call,
             buffer,
-            lent: (noted, mark_bytes(noted)),
+            lent: lent(trio, noted),
             given: None,
         };
         if self.random.one_in(40)
             || (matches!(call, Call::FreshStart { .. }) && self.random.one_in(2))
         {
-            made.lent = self.wrong_lengths(noted, trio.capacity());
+            (made.lent.memory, made.lent.marks) = self.wrong_lengths(noted, trio.capacity());
+        }
+        if self.random.one_in(20) {
+            made.lent.records = self.fewer_records(trio);
         }
         match self.random.below(100) {
             0..=6 => {
-                let (damage, state) = damage::damaged(trio.kept(), &mut self.random);
+                let (damage, kept) = damage::damaged(trio.kept(), &mut self.random);
                 self.damages.count(damage);
-                made.given = Some(state);
+                made.given = Some(kept);
             }
             7..=8 => made.given = Some(self.another_state(trio)),
             _ => {}
         }
         Step::Make(Box::new(made))
+    }
+
+    /// A number of records near the count, or near the limit.
+    fn fewer_records(&mut self, trio: &Trio) -> usize {
+        let (all, count) = (trio.records(), trio.state.count as usize);
+        let near = match self.random.below(8) {
+            0..=1 => count.saturating_sub(1),
+            2..=3 => count,
+            4 => count + 1,
+            5 => self.random.pick(&[RECORDS_LIMIT - 1, RECORDS_LIMIT + 1]),
+            6 => self.random.below(all as u64 + 1) as usize,
+            _ => all,
+        };
+        near.min(all)
     }
 
     fn wrong_lengths(&mut self, noted: usize, capacity: usize) -> (usize, usize) {
@@ -153,22 +199,41 @@ impl Generator {
         }
     }
 
-    /// A state that a caller might have kept: sound, with garbage where nothing is meant.
+    /// Another slice with the records in use: longer, shorter, or just long enough for them.
+    fn exchange(&mut self, trio: &Trio) -> Step {
+        let random = &mut self.random;
+        let length = if trio.records() > FEW {
+            random.pick(&[RECORDS_LIMIT - 1, RECORDS_LIMIT, MANY, MANY])
+        } else {
+            random.pick(&[0, 1, 2, 3, 17, 63, 64, 64, 64, 65, FEW])
+        };
+        Step::Exchange {
+            length: length.max(trio.state.count as usize),
+            seed: random.number(),
+        }
+    }
+
+    /// A state and records that a caller might have kept: sound, with garbage where nothing is meant.
     fn install(&mut self, trio: &Trio) -> Step {
         Step::Install(Box::new(self.sound_state(trio)))
     }
 
-    fn another_state(&mut self, trio: &Trio) -> State {
+    fn another_state(&mut self, trio: &Trio) -> Kept {
         if self.random.one_in(2) {
-            return self.sound_state(trio);
+            let mut kept = self.sound_state(trio);
+            kept.records.truncate(RECORDS_LIMIT);
+            return kept;
         }
-        let mut state = *trio.kept();
-        garble(&mut state, &mut self.random);
-        state
+        let mut kept = trio.kept().clone();
+        garble(&mut kept, &mut self.random);
+        kept
     }
 
-    fn sound_state(&mut self, trio: &Trio) -> State {
+    /// As many records as there are now, of which any number is in use.
+    fn sound_state(&mut self, trio: &Trio) -> Kept {
         let random = &mut self.random;
+        let mut records = vec![Mapping::default(); trio.records()];
+        let room = records.len().min(RECORDS_LIMIT) as u64;
         let mut state = State {
             memory_length: trio.state.noted_length.min(trio.capacity() as u64),
             running: u8::from(random.one_in(8)),
@@ -176,14 +241,23 @@ impl Generator {
             ..State::default()
         };
         let pages = state.memory_length / PAGE;
-        let count = if pages == 0 {
-            0
-        } else {
-            random.pick(&[0, 1, 1, 2, 2, 3, 5, 16, 17, 63, 64, 64])
+        let count = match random.below(14) {
+            _ if pages == 0 => 0,
+            0..=1 => room,
+            2 => room.saturating_sub(1),
+            3..=5 if room > FEW as u64 => random.pick(&[room, room - 1]),
+            _ if room > FEW as u64 => random.pick(&[0, 1, 2, 64, 65, 1024, room - 2]),
+            _ => random
+                .pick(&[0, 1, 1, 2, 2, 3, 5, 16, 17, 63, 64])
+                .min(room),
         };
         let gap = random.pick(&[0, 0, 0, 1, 1, 3]) * PAGE;
         let large = pages > 16;
-        let count = if large && random.one_in(2) { 1 } else { count };
+        let count = if large && random.one_in(2) {
+            count.min(1)
+        } else {
+            count
+        };
         let size = match count {
             1 if large => random.pick(&[16, 17]) * PAGE,
             0..=5 => random.from(1, pages.clamp(1, 3)) * PAGE,
@@ -191,7 +265,7 @@ impl Generator {
         };
         let total = count * (size + gap);
         let low = random.pick(&[0, 0, 0x10_0000, 1 << 40, TOP - total]);
-        for (i, m) in state.table.entries[..count as usize].iter_mut().enumerate() {
+        for (i, m) in records[..count as usize].iter_mut().enumerate() {
             let place = random.below(pages - size / PAGE + 1);
             *m = Mapping {
                 device: DeviceAddress(low + i as u64 * (size + gap)),
@@ -203,7 +277,7 @@ impl Generator {
                 m.memory.0 = 0;
             }
         }
-        state.table.count = count as usize;
+        state.count = count as usize;
         let all = random.one_in(4);
         for (slot, (kind, _, _)) in SLOTS.iter().enumerate() {
             if all || *kind == 0x103 || random.one_in(3) {
@@ -213,15 +287,16 @@ impl Generator {
                 state.registers.slots[slot] = Register { set: 1, bytes };
             }
         }
-        garble(&mut state, random);
-        state
+        let mut kept = Kept { state, records };
+        garble(&mut kept, random);
+        kept
     }
 
     /// Makes much of memory written.
     fn store_all(&mut self, trio: &Trio) -> Step {
-        let noted = (trio.state.noted_length as usize).min(trio.capacity());
+        let noted = noted(trio);
         let bytes = self.random.bytes(noted.min(LONGEST));
-        self.lend(Call::HostStore { address: 0 }, bytes, noted)
+        self.lend(trio, Call::HostStore { address: 0 }, bytes, noted)
     }
 
     // ---- calls
@@ -279,7 +354,7 @@ impl Generator {
     /// stored.
     fn device(&mut self, trio: &Trio) -> u64 {
         let random = &mut self.random;
-        let mappings = &trio.state.mappings;
+        let mappings = trio.state.mappings();
         if mappings.is_empty() && !random.one_in(4) {
             return random.below(0x10_0000);
         }
@@ -314,7 +389,7 @@ impl Generator {
 
     fn card_move(&mut self, trio: &Trio) -> (u64, usize) {
         let device = self.device(trio);
-        let mappings = &trio.state.mappings;
+        let mappings = trio.state.mappings();
         let held = mappings.iter().find(|m| m.holds(u128::from(device)));
         // How far it is to the end of the mapping, or of the space.
         let left = match held {
@@ -326,7 +401,7 @@ impl Generator {
 
     /// A move as long as one may be, where it can be accepted.
     fn long_move(&mut self, trio: &Trio) -> (Call, Vec<u8>) {
-        let first = trio.state.mappings.first().map_or(0, |m| m.device.0);
+        let first = trio.state.mappings().first().map_or(0, |m| m.device.0);
         let device = first + self.random.pick(&[0, 0, 1, 4095]);
         let address = self.random.pick(&[0, 0, 1, 4096, 4097]);
         let length = self
@@ -493,7 +568,7 @@ impl Generator {
 
     /// A device address beside a mapping, in one, around one, or anywhere.
     fn free_device(&mut self, trio: &Trio, size: u64) -> u64 {
-        let mappings = &trio.state.mappings;
+        let mappings = trio.state.mappings();
         let random = &mut self.random;
         if mappings.is_empty() || random.one_in(8) {
             return random.pick(&[0, PAGE, 0x10_0000, 1 << 40, TOP - PAGE, TOP - size]);
@@ -512,7 +587,7 @@ impl Generator {
 
     /// argsz, flags, device address, size.
     fn unmap_fields(&mut self, trio: &Trio, buffer: &mut [u8]) {
-        let mappings = &trio.state.mappings;
+        let mappings = trio.state.mappings();
         let random = &mut self.random;
         let (mut device, mut size) = (random.pick(&[0, PAGE, 1 << 40, TOP - PAGE]), PAGE);
         if !mappings.is_empty() {
@@ -657,6 +732,19 @@ impl Generator {
     }
 }
 
+fn noted(trio: &Trio) -> usize {
+    (trio.state.noted_length as usize).min(trio.capacity())
+}
+
+/// All records that may be lent, and memory of this length with its marks.
+fn lent(trio: &Trio, memory: usize) -> Lent {
+    Lent {
+        records: trio.records().min(RECORDS_LIMIT),
+        memory,
+        marks: mark_bytes(memory),
+    }
+}
+
 /// Puts a field where the buffer reaches.
 fn put(buffer: &mut [u8], at: usize, width: usize, number: u64) {
     let bytes = number.to_le_bytes();
@@ -666,8 +754,6 @@ fn put(buffer: &mut [u8], at: usize, width: usize, number: u64) {
         }
     }
 }
-
-const _: () = assert!(MAPPINGS == 64);
 
 #[cfg(test)]
 mod tests {
@@ -679,7 +765,8 @@ mod tests {
     fn started() -> (Generator, Trio) {
         let mut generator = Generator::new(1);
         generator.length = 8192;
-        let mut trio = Trio::new(generator.capacity(), 1, faithful);
+        generator.records = 65;
+        let mut trio = Trio::new(generator.size(), 1, faithful);
         let step = generator.next(&trio);
         assert!(trio.step(&step).is_ok());
         (generator, trio)
@@ -707,7 +794,7 @@ mod tests {
     fn a_seed_makes_one_list() {
         let list = |seed| {
             let mut generator = Generator::new(seed);
-            let mut trio = Trio::new(generator.capacity(), seed, faithful);
+            let mut trio = Trio::new(generator.size(), seed, faithful);
             let mut shown = Vec::new();
             for _ in 0..100 {
                 let step = generator.next(&trio);

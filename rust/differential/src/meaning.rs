@@ -1,11 +1,13 @@
-//! What a state of the emulator means, in the second program's terms.
+//! What a state of the emulator and its records mean, in the second program's terms.
 
 use glint_reference::bench::{self, DeviceAddress, Mapping, MemoryAddress};
 use glint_reference::registers::Registers;
 use glintbasket::raw::SLOTS;
-use glintbasket::{State, MAPPINGS};
+use glintbasket::State;
 
-fn mapping(m: &glintbasket::Mapping) -> Mapping {
+use crate::call::Kept;
+
+pub fn mapping(m: &glintbasket::Mapping) -> Mapping {
     Mapping {
         memory: MemoryAddress(m.memory.0),
         device: DeviceAddress(m.device.0),
@@ -23,14 +25,10 @@ pub fn value_size(words: u8, slot: usize) -> usize {
     state.value_size(slot).min(32)
 }
 
-/// Entries past the count, values of registers that are not set and bytes behind a value mean
-/// nothing. A count above 64 has no entries to show: it means one mapping too many.
-pub fn meaning(state: &State) -> bench::State {
-    let held = state.table.count.min(MAPPINGS);
-    let mut mappings: Vec<Mapping> = state.table.entries[..held].iter().map(mapping).collect();
-    if state.table.count > MAPPINGS {
-        mappings.push(mapping(&state.table.entries[MAPPINGS - 1]));
-    }
+/// Values of registers that are not set and bytes behind a value mean nothing. All records are taken
+/// over, stale ones too.
+pub fn meaning(kept: &Kept) -> bench::State {
+    let state = &kept.state;
     let mut registers = Registers::new();
     for (slot, register) in state.registers.slots.iter().enumerate() {
         if register.is_set() {
@@ -41,28 +39,21 @@ pub fn meaning(state: &State) -> bench::State {
     }
     bench::State {
         noted_length: state.memory_length,
-        mappings,
+        records: kept.records.iter().map(mapping).collect(),
+        count: state.count as u64,
         running: state.is_running(),
         words: state.words.into(),
         registers,
     }
 }
 
-/// Whether a state means this; quicker than to make its meaning.
+/// Whether a state means this, but for its records; quicker than to make its meaning.
 pub fn means(state: &State, other: &bench::State) -> bool {
-    let table = &state.table;
-    if table.count > MAPPINGS {
-        return meaning(state) == *other;
-    }
     let registers = state.registers.slots.iter().filter(|r| r.is_set()).count();
     state.memory_length == other.noted_length
         && state.is_running() == other.running
         && u64::from(state.words) == other.words
-        && table.count == other.mappings.len()
-        && table.entries[..table.count]
-            .iter()
-            .zip(&other.mappings)
-            .all(|(m, o)| mapping(m) == *o)
+        && state.count as u64 == other.count
         && registers == other.registers.len()
         && state
             .registers
@@ -75,4 +66,12 @@ pub fn means(state: &State, other: &bench::State) -> bool {
                 other.registers.get(&(kind, selector)).map(Vec::as_slice)
                     == Some(&register.bytes[..value_size(state.words, slot)])
             })
+}
+
+/// The first place at which records differ from the second program's.
+pub fn first_other(records: &[glintbasket::Mapping], others: &[Mapping]) -> Option<usize> {
+    let shorter = records.len().min(others.len());
+    let mut pairs = records.iter().zip(others);
+    let place = pairs.position(|(one, other)| mapping(one) != *other);
+    place.or((records.len() != others.len()).then_some(shorter))
 }

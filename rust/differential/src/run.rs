@@ -6,7 +6,7 @@ use crate::events::Events;
 use crate::generate::Generator;
 use crate::pairs::Pairs;
 use crate::shorten::{first_difference, shorten};
-use crate::trio::{Fault, Tamper, Trio};
+use crate::trio::{Fault, Size, Tamper, Trio};
 
 /// Steps of a list.
 const STEPS: usize = 250;
@@ -23,7 +23,7 @@ pub struct Coverage {
 /// A list at whose last step the programs differ.
 pub struct Difference {
     pub seed: u64,
-    pub capacity: usize,
+    pub size: Size,
     pub step: usize,
     pub fault: Fault,
     steps: Vec<Step>,
@@ -33,8 +33,8 @@ pub struct Difference {
 /// Makes the list of a seed.
 pub fn run_list(seed: u64, tamper: Tamper, coverage: &mut Coverage) -> Result<(), Difference> {
     let mut generator = Generator::new(seed);
-    let capacity = generator.capacity();
-    let mut trio = Trio::new(capacity, seed, tamper);
+    let size = generator.size();
+    let mut trio = Trio::new(size, seed, tamper);
     let mut steps = Vec::with_capacity(STEPS);
     for _ in 0..STEPS {
         let step = generator.next(&trio);
@@ -51,7 +51,7 @@ pub fn run_list(seed: u64, tamper: Tamper, coverage: &mut Coverage) -> Result<()
                 steps.push(step);
                 return Err(Difference {
                     seed,
-                    capacity,
+                    size,
                     step: steps.len(),
                     fault,
                     steps,
@@ -67,7 +67,7 @@ pub fn run_list(seed: u64, tamper: Tamper, coverage: &mut Coverage) -> Result<()
 
 impl Difference {
     pub fn shortened(&self) -> Vec<Step> {
-        shorten(self.steps.clone(), self.capacity, self.seed, self.tamper)
+        shorten(self.steps.clone(), self.size, self.seed, self.tamper)
     }
 
     /// The seed, the step, what differs, and a shortened list.
@@ -79,7 +79,7 @@ impl Difference {
         for step in &short {
             report += &format!("  {step}\n");
         }
-        if let Some((_, fault)) = first_difference(&short, self.capacity, seed, self.tamper) {
+        if let Some((_, fault)) = first_difference(&short, self.size, seed, self.tamper) {
             report += &format!("  => {fault}\n");
         }
         report

@@ -3,22 +3,29 @@
 use std::panic::{catch_unwind, AssertUnwindSafe};
 
 use glint_reference::bench::{self, is_written, mark, mark_bytes};
-use glintbasket::State;
+use glintbasket::{Mapping, State};
 
-use crate::call::{Answer, Call, Made, Step};
-use crate::meaning::{meaning, means, value_size};
+use crate::call::{Answer, Call, Kept, Lent, Made, Step};
+use crate::meaning::{first_other, mapping, meaning, means, value_size};
 use crate::programs::{emulate, refer};
 use crate::random::Random;
 
-/// Changes what the emulator answers: for tests of this program.
-pub type Tamper = fn(&Call, Answer) -> Answer;
+/// Changes what the emulator answers and leaves: for tests of this program.
+pub type Tamper = fn(&Call, Answer, &mut Kept) -> Answer;
 
-pub fn faithful(_: &Call, answer: Answer) -> Answer {
+pub fn faithful(_: &Call, answer: Answer, _: &mut Kept) -> Answer {
     answer
 }
 
+/// How much there is to lend, at first.
+#[derive(Clone, Copy, Debug)]
+pub struct Size {
+    pub records: usize,
+    pub memory: usize,
+}
+
 struct Side {
-    state: State,
+    kept: Kept,
     memory: Vec<u8>,
     marks: Vec<u8>,
 }
@@ -26,10 +33,13 @@ struct Side {
 pub struct Trio {
     emulator: Side,
     twin: Side,
-    /// The second program's state, memory and marks. It starts with the emulator's bytes.
+    /// The second program's state with its records, memory and marks. It starts with the emulator's
+    /// bytes and records.
     pub state: bench::State,
     memory: Vec<u8>,
     marks: Vec<u8>,
+    /// Whether the records are others than at the last call.
+    pub exchanged: bool,
     /// What the twin's stale bytes differ by.
     other: u8,
     tamper: Tamper,
@@ -39,29 +49,33 @@ pub struct Trio {
 pub type Fault = String;
 
 impl Trio {
-    /// Garbage in states, memory and marks: a fresh start comes first.
-    pub fn new(capacity: usize, seed: u64, tamper: Tamper) -> Trio {
+    /// Garbage in states, records, memory and marks: a fresh start comes first.
+    pub fn new(size: Size, seed: u64, tamper: Tamper) -> Trio {
         let mut random = Random::new(seed);
-        let mut state = State::default();
-        garble(&mut state, &mut random);
-        let memory = random.bytes(capacity);
-        let marks = random.bytes(mark_bytes(capacity));
-        let mut twin_state = state;
-        garble(&mut twin_state, &mut random);
+        let mut kept = Kept {
+            state: State::default(),
+            records: vec![Mapping::default(); size.records],
+        };
+        garble(&mut kept, &mut random);
+        let memory = random.bytes(size.memory);
+        let marks = random.bytes(mark_bytes(size.memory));
+        let mut twin_kept = kept.clone();
+        garble(&mut twin_kept, &mut random);
         Trio {
-            state: meaning(&state),
+            state: meaning(&kept),
             memory: memory.clone(),
             marks: marks.clone(),
             twin: Side {
-                state: twin_state,
+                kept: twin_kept,
                 memory: twin_memory(&memory, &marks, &mut random),
                 marks: marks.clone(),
             },
             emulator: Side {
-                state,
+                kept,
                 memory,
                 marks,
             },
+            exchanged: false,
             other: random.from(1, 255) as u8,
             tamper,
         }
@@ -72,6 +86,11 @@ impl Trio {
         self.memory.len()
     }
 
+    /// How many records there are to lend.
+    pub fn records(&self) -> usize {
+        self.state.records.len()
+    }
+
     /// What stands in the last mark byte past the noted length.
     pub fn bits_past_end(&self) -> Vec<bool> {
         let noted = self.state.noted_length as usize;
@@ -79,8 +98,8 @@ impl Trio {
         (noted..end).map(|i| is_written(&self.marks, i)).collect()
     }
 
-    pub fn kept(&self) -> &State {
-        &self.emulator.state
+    pub fn kept(&self) -> &Kept {
+        &self.emulator.kept
     }
 
     /// One step on all three. The answer, if it is a call, or the first difference. A program that
@@ -112,14 +131,45 @@ impl Trio {
                 }
                 Ok(None)
             }
-            Step::Install(state) => {
-                self.state = meaning(state);
-                self.emulator.state = **state;
-                self.twin.state = **state;
-                garble(&mut self.twin.state, &mut Random::new(1));
+            Step::Stale { seed } => {
+                self.noise(*seed);
+                Ok(None)
+            }
+            Step::Exchange { length, seed } => {
+                self.state
+                    .records
+                    .resize(*length, bench::Mapping::filled(0));
+                for side in [&mut self.emulator, &mut self.twin] {
+                    side.kept.records.resize(*length, Mapping::default());
+                }
+                self.noise(*seed);
+                self.exchanged = true;
+                Ok(None)
+            }
+            Step::Install(kept) => {
+                self.state = meaning(kept);
+                self.emulator.kept = (**kept).clone();
+                self.twin.kept = (**kept).clone();
+                garble(&mut self.twin.kept, &mut Random::new(1));
                 Ok(None)
             }
         }
+    }
+
+    /// Stale records become others, and the twin's others again.
+    fn noise(&mut self, seed: u64) {
+        let mut random = Random::new(seed);
+        let stale = self.emulator.kept.stale_mut();
+        stale.iter_mut().for_each(|m| *m = noise(&mut random));
+        let used = self.emulator.kept.mappings().len();
+        for (other, m) in self.state.records[used..]
+            .iter_mut()
+            .zip(stale_of(&self.emulator))
+        {
+            *other = mapping(m);
+        }
+        let stale = self.twin.kept.stale_mut();
+        stale.iter_mut().for_each(|m| *m = noise(&mut random));
     }
 
     fn scribble(&mut self, from: usize, length: usize, seed: u64) {
@@ -136,29 +186,31 @@ impl Trio {
     }
 
     fn make(&mut self, made: &Made) -> Result<Answer, Fault> {
+        self.exchanged = false;
         let call = &made.call;
-        let given = made.given.unwrap_or(self.emulator.state);
-        let mut twin_given = self.twin.state;
-        if let Some(state) = made.given {
-            twin_given = state;
-            garble(&mut twin_given, &mut Random::new(u64::from(self.other)));
+        let mut given = made.given.clone();
+        let mut twin_given = made.given.clone();
+        if let Some(kept) = &mut twin_given {
+            garble(kept, &mut Random::new(u64::from(self.other)));
         }
         let mut other_state = made.given.as_ref().map(meaning);
         let state = other_state.as_mut().unwrap_or(&mut self.state);
 
         let mut expected_buffer = made.buffer.clone();
-        let (memory, marks) = (&mut self.memory, &mut self.marks);
         let expected = refer(
             call,
             state,
-            &mut memory[..made.lent.0],
-            &mut marks[..made.lent.1],
+            made.records(),
+            &mut self.memory[..made.lent.memory],
+            &mut self.marks[..made.lent.marks],
             &mut expected_buffer,
         );
 
+        let before = given.as_ref().unwrap_or(&self.emulator.kept).clone();
         let mut buffer = made.buffer.clone();
-        let (answer, left) = self.emulator.make(made, &given, &mut buffer);
-        let answer = (self.tamper)(call, answer);
+        let answer = self.emulator.make(made, given.as_mut(), &mut buffer);
+        let left = given.as_mut().unwrap_or(&mut self.emulator.kept);
+        let answer = (self.tamper)(call, answer, left);
         check(answer == expected, || {
             format!("the emulator answers {answer:x?}, the second program {expected:x?}")
         })?;
@@ -171,22 +223,25 @@ impl Trio {
         check(self.emulator.marks == self.marks, || {
             differs("marks", &self.emulator.marks, &self.marks)
         })?;
-        check(means(&left, state), || {
+        let left = given.as_ref().unwrap_or(&self.emulator.kept);
+        check(means(&left.state, state), || {
             format!(
                 "the states differ: the emulator's {:x?}, the second program's {state:x?}",
-                meaning(&left)
+                meaning(left)
             )
         })?;
+        same_records("record", &left.records, &state.records)?;
         let refused = matches!(answer, Answer::Refused { .. });
-        check(!refused || left == given, || {
-            "a refused call changed the struct of the state".to_string()
+        check(!refused || *left == before, || {
+            "a refused call changed the struct of the state, or a record".to_string()
         })?;
         check(!refused || buffer == made.buffer, || {
             "a refused call wrote to its buffer".to_string()
         })?;
 
         let stale = self.other;
-        let twin_before = self.twin.memory.clone();
+        let twin_memory_before = self.twin.memory.clone();
+        let twin_before = twin_given.as_ref().unwrap_or(&self.twin.kept).clone();
         let mut twin_buffer = made.buffer.clone();
         for (i, byte) in twin_buffer.iter_mut().enumerate() {
             if call.is_stale(i) {
@@ -196,21 +251,32 @@ impl Trio {
         let twin_stale = twin_buffer.clone();
         // The twin's bits past the end are others, for this one call.
         self.twin.flip_past_end(made.lent);
-        let (twin_answer, twin_left) = self.twin.make(made, &twin_given, &mut twin_buffer);
+        let twin_answer = self.twin.make(made, twin_given.as_mut(), &mut twin_buffer);
         self.twin.flip_past_end(made.lent);
+        let twin_left = twin_given.as_ref().unwrap_or(&self.twin.kept);
         check(twin_answer == expected, || {
             format!("other garbage: the emulator answers {twin_answer:x?}, not {expected:x?}")
         })?;
-        check(means(&twin_left, state), || {
+        check(means(&twin_left.state, state), || {
             "other garbage: the states differ".to_string()
         })?;
-        check(!refused || twin_left == twin_given, || {
-            "other garbage: a refused call changed the struct of the state".to_string()
+        same_records(
+            "other garbage: record",
+            twin_left.mappings(),
+            state.mappings(),
+        )?;
+        let used = twin_left.mappings().len();
+        check(
+            twin_left.records[used..] == twin_before.records[used..],
+            || "other garbage: a record past the count changed".to_string(),
+        )?;
+        check(!refused || *twin_left == twin_before, || {
+            "other garbage: a refused call changed the struct of the state, or a record".to_string()
         })?;
         check(self.twin.marks == self.marks, || {
             differs("other garbage: marks", &self.twin.marks, &self.marks)
         })?;
-        check(self.same_written(&twin_before), || {
+        check(self.same_written(&twin_memory_before), || {
             "other garbage: written memory differs, or unwritten memory changed".to_string()
         })?;
         // Each byte of a buffer was written alike, or in neither.
@@ -222,50 +288,71 @@ impl Trio {
             differs("other garbage: the buffer", &twin_buffer, &buffer)
         })?;
 
-        match other_state {
-            None => {
-                self.emulator.state = left;
-                self.twin.state = twin_left;
-            }
-            Some(state) if matches!(call, Call::FreshStart { .. }) && !refused => {
-                self.state = state;
-                self.emulator.state = left;
-                self.twin.state = twin_left;
-            }
-            Some(_) => {}
+        let started = matches!(call, Call::FreshStart { .. }) && !refused;
+        if let (Some(state), Some(kept), Some(twin), true) =
+            (other_state, given, twin_given, started)
+        {
+            self.state = state;
+            self.emulator.kept = kept;
+            self.twin.kept = twin;
         }
         Ok(answer)
     }
 
-    /// Where a byte is written the twin's memory has the same one; elsewhere its own stays.
+    /// Where a byte is written the twin's memory has the same one; elsewhere its own stays. A mark
+    /// byte mostly says the same of all its eight bytes.
     fn same_written(&self, before: &[u8]) -> bool {
-        let mut bad = 0;
-        for i in 0..self.memory.len() {
-            let byte = self.twin.memory[i];
-            let good = if is_written(&self.marks, i) {
-                self.memory[i]
-            } else {
-                before[i]
-            };
-            bad |= byte ^ good;
-        }
-        bad == 0
+        let length = self.memory.len();
+        (0..length).step_by(8).all(|from| {
+            let eight = from..(from + 8).min(length);
+            let twin = &self.twin.memory;
+            match self.marks[from / 8] {
+                0xff => twin[eight.clone()] == self.memory[eight],
+                0 => twin[eight.clone()] == before[eight],
+                _ => eight.into_iter().all(|i| {
+                    let written = is_written(&self.marks, i);
+                    twin[i] == if written { self.memory[i] } else { before[i] }
+                }),
+            }
+        })
     }
 }
 
 impl Side {
     /// Turns every bit of the lent marks that has no byte of the lent memory.
-    fn flip_past_end(&mut self, lent: (usize, usize)) {
-        for i in lent.0..lent.1 * 8 {
+    fn flip_past_end(&mut self, lent: Lent) {
+        for i in lent.memory..lent.marks * 8 {
             let written = is_written(&self.marks, i);
             mark(&mut self.marks, i, !written);
         }
     }
 
-    fn make(&mut self, made: &Made, given: &State, buffer: &mut [u8]) -> (Answer, State) {
-        let memory = &mut self.memory[..made.lent.0];
-        let marks = &mut self.marks[..made.lent.1];
-        emulate(&made.call, given, memory, marks, buffer)
+    fn make(&mut self, made: &Made, given: Option<&mut Kept>, buffer: &mut [u8]) -> Answer {
+        let kept = given.unwrap_or(&mut self.kept);
+        emulate(
+            &made.call,
+            &mut kept.state,
+            &mut kept.records[..made.records()],
+            &mut self.memory[..made.lent.memory],
+            &mut self.marks[..made.lent.marks],
+            buffer,
+        )
+    }
+}
+
+fn stale_of(side: &Side) -> &[Mapping] {
+    &side.kept.records[side.kept.mappings().len()..]
+}
+
+/// That records are the second program's.
+fn same_records(what: &str, records: &[Mapping], others: &[bench::Mapping]) -> Result<(), Fault> {
+    match first_other(records, others) {
+        None => Ok(()),
+        Some(i) => Err(format!(
+            "{what} {i} differs: {:x?}, not {:x?}",
+            records.get(i),
+            others.get(i)
+        )),
     }
 }
 
@@ -299,14 +386,26 @@ fn twin_memory(memory: &[u8], marks: &[u8], random: &mut Random) -> Vec<u8> {
     twin
 }
 
-/// Fills all of a state that means nothing.
-pub fn garble(state: &mut State, random: &mut Random) {
-    for m in state.table.entries.iter_mut().skip(state.table.count) {
-        m.device.0 = random.number();
-        m.memory.0 = random.number() & 0xf_f000;
-        m.size = random.number();
-        m.rights.0 = random.number() as u32;
+/// What a stale record may hold: a mapping that would be sound among others, or anything.
+fn noise(random: &mut Random) -> Mapping {
+    let mut record = Mapping::default();
+    record.device.0 = random.number();
+    record.memory.0 = random.number() & 0xf_f000;
+    record.size = random.number();
+    record.rights.0 = random.number() as u32;
+    if random.one_in(4) {
+        record.device.0 &= 0xf_f000;
+        record.memory.0 = 0;
+        record.size = 4096;
+        record.rights.0 = 3;
     }
+    record
+}
+
+/// Fills all of a state that means nothing, and the records past its count.
+pub fn garble(kept: &mut Kept, random: &mut Random) {
+    kept.stale_mut().iter_mut().for_each(|m| *m = noise(random));
+    let state = &mut kept.state;
     let words = state.words;
     for (slot, register) in state.registers.slots.iter_mut().enumerate() {
         if !register.is_set() {

@@ -4,6 +4,7 @@
 use glint_differential::call::{Answer, Call};
 use glint_differential::run::{run_list, Coverage, Difference};
 use glint_differential::trio::{faithful, Tamper};
+use glintbasket::Mapping;
 
 fn first_difference(tamper: Tamper) -> Difference {
     let mut coverage = Coverage::default();
@@ -24,7 +25,7 @@ fn the_emulator_and_the_second_program_agree() {
 
 #[test]
 fn a_wrong_place_is_found_and_the_list_is_short() {
-    let difference = first_difference(|_, answer| match answer {
+    let difference = first_difference(|_, answer, _| match answer {
         Answer::Refused { code: 16, place } if place > 0 => Answer::Refused {
             code: 16,
             place: place - 1,
@@ -40,7 +41,7 @@ fn a_wrong_place_is_found_and_the_list_is_short() {
 #[test]
 fn a_refusal_that_comes_too_late_is_found() {
     // 7 in place of 8: the order of two checks.
-    let difference = first_difference(|call, answer| match (call, answer) {
+    let difference = first_difference(|call, answer, _| match (call, answer) {
         (
             Call::Request {
                 target: 0,
@@ -55,9 +56,27 @@ fn a_refusal_that_comes_too_late_is_found() {
 
 #[test]
 fn a_wrong_result_is_found() {
-    let difference = first_difference(|call, answer| match (call, answer) {
+    let difference = first_difference(|call, answer, _| match (call, answer) {
         (Call::SaveParts, Answer::Done(length)) => Answer::Done(length + 1),
         (_, other) => other,
+    });
+    assert!(difference.shortened().len() <= 3, "{}", difference.report());
+}
+
+/// Records past the count mean nothing, and still no call may change one.
+#[test]
+fn a_stale_record_that_is_cleared_is_found() {
+    let difference = first_difference(|call, answer, kept| {
+        let unmap = Call::Request {
+            target: 0,
+            number: 114,
+        };
+        if *call == unmap && answer == Answer::Done(0) {
+            if let Some(record) = kept.stale_mut().first_mut() {
+                *record = Mapping::default();
+            }
+        }
+        answer
     });
     assert!(difference.shortened().len() <= 3, "{}", difference.report());
 }

@@ -1,7 +1,7 @@
 //! The limit of 2^30 bytes of memory, which no list can afford. Nothing here touches the pages of
 //! so long a memory, so that none of them is ever there.
 
-use glint_differential::call::{Answer, Call};
+use glint_differential::call::{Answer, Call, Kept};
 use glint_differential::meaning::meaning;
 use glint_differential::programs::{emulate, refer};
 use glintbasket::{raw, Card};
@@ -9,26 +9,31 @@ use glintbasket::{DeviceAddress, Mapping, MemoryAddress, Rights, State};
 
 const LIMIT: usize = 1 << 30;
 
-fn state(length: usize) -> State {
-    let mut state = raw::power_on(&State::default(), Card::Features64, &[], &mut []).state;
-    state.memory_length = length as u64;
-    state.table.count = 1;
-    state.table.entries[0] = Mapping {
+fn kept(length: usize) -> Kept {
+    let mapping = Mapping {
         device: DeviceAddress(0),
         memory: MemoryAddress(LIMIT as u64 - 4096),
         size: 4096,
         rights: Rights(3),
     };
-    state
+    let mut state = State::default();
+    raw::power_on(&mut state, &[], &[], &mut [], Card::Features64);
+    state.memory_length = length as u64;
+    state.count = 1;
+    Kept {
+        state,
+        records: vec![mapping],
+    }
 }
 
 fn both(call: Call, length: usize, memory: &mut [u8], marks: &mut [u8]) -> Answer {
-    let given = state(length);
-    let mut other = meaning(&given);
+    let mut kept = kept(length);
+    let mut other = meaning(&kept);
     let buffer = &mut [0; 32];
-    let (answer, left) = emulate(&call, &given, memory, marks, buffer);
-    assert_eq!(answer, refer(&call, &mut other, memory, marks, buffer));
-    assert_eq!(meaning(&left), other);
+    let Kept { state, records } = &mut kept;
+    let answer = emulate(&call, state, records, memory, marks, buffer);
+    assert_eq!(answer, refer(&call, &mut other, 1, memory, marks, buffer));
+    assert_eq!(meaning(&kept), other);
     answer
 }
 

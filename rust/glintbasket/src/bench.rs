@@ -1,37 +1,12 @@
-//! The bench: memory, marks and state, and every call on them.
+//! The bench: records, memory, marks and state, and every call on them.
 
 use crate::address::{DeviceAddress, MemoryAddress, Rights};
+use crate::builder::Builder;
 use crate::card::Card;
 use crate::error::Result;
-use crate::raw::{self, Kept, Mapping, State};
+use crate::lent::Lent;
+use crate::raw::{self, Mapping, State};
 use std::fmt;
-use std::ops::{Deref, DerefMut};
-
-/// Bytes that a bench works on: lent to it, or its own.
-enum Bytes<'m> {
-    Lent(&'m mut [u8]),
-    Owned(Vec<u8>),
-}
-
-impl Deref for Bytes<'_> {
-    type Target = [u8];
-
-    fn deref(&self) -> &[u8] {
-        match self {
-            Bytes::Lent(bytes) => bytes,
-            Bytes::Owned(bytes) => bytes,
-        }
-    }
-}
-
-impl DerefMut for Bytes<'_> {
-    fn deref_mut(&mut self) -> &mut [u8] {
-        match self {
-            Bytes::Lent(bytes) => bytes,
-            Bytes::Owned(bytes) => bytes,
-        }
-    }
-}
 
 /// How many bytes the marks of so many bytes of memory take: eight marks to a byte.
 ///
@@ -68,59 +43,63 @@ pub struct Location {
 /// The host side of VFIO, with one device: memory with a mark for each byte that somebody wrote, a table of DMA mappings, and the
 /// device's registers.
 ///
-/// Every call answers exactly by the rules. A refused one changes nothing: no byte of memory, marks or buffer, nor the state.
+/// Every call answers exactly by the rules. A refused one changes nothing: no record, no byte of memory, marks or buffer, nor the state.
 pub struct Bench<'m> {
-    memory: Bytes<'m>,
-    marks: Bytes<'m>,
-    state: State,
+    pub(crate) records: Lent<'m, Mapping>,
+    pub(crate) memory: Lent<'m, u8>,
+    pub(crate) marks: Lent<'m, u8>,
+    pub(crate) state: State,
 }
 
-/// A [`Bench`] that owns its memory and marks.
+/// A [`Bench`] that owns its records, memory and marks.
 pub type OwnedBench = Bench<'static>;
 
 impl OwnedBench {
-    /// A fresh start on memory that the bench then owns. The bytes stay as they are, and none counts as written.
+    /// A fresh start on memory that the bench then owns, with [`DEFAULT_RECORDS`](crate::DEFAULT_RECORDS) records. The bytes stay as they
+    /// are, and none counts as written.
     ///
     /// Refused: `BadBench` for more than 2^30 bytes.
     pub fn with_memory(memory: Vec<u8>) -> Result<OwnedBench> {
-        OwnedBench::with_memory_and_card(memory, Card::default())
+        Bench::builder().own(memory)
     }
 
     /// The same of any card.
     pub fn with_memory_and_card(memory: Vec<u8>, card: Card) -> Result<OwnedBench> {
-        let marks = vec![0; marks_len(memory.len())];
-        let mut bench = Bench {
-            memory: Bytes::Owned(memory),
-            marks: Bytes::Owned(marks),
-            state: State::default(),
-        };
-        bench.power_on_as(card)?;
-        Ok(bench)
+        Bench::builder().card(card).own(memory)
     }
 }
 
 impl<'m> Bench<'m> {
-    /// A fresh start of the card with 64 feature bits, on lent memory and marks. Memory bytes stay as they are; all marks become 0, and
-    /// the bits past the last one stay.
+    /// A fresh start of the card with 64 feature bits, on lent memory and marks, with [`DEFAULT_RECORDS`](crate::DEFAULT_RECORDS) records
+    /// of the bench's own. Memory bytes stay as they are; all marks become 0, and the bits past the last one stay.
     ///
     /// Refused: `BadBench` if the marks are not [`marks_len`] bytes, or memory exceeds 2^30.
     pub fn new(memory: &'m mut [u8], marks: &'m mut [u8]) -> Result<Bench<'m>> {
-        Bench::with_card(memory, marks, Card::default())
+        Bench::builder().lend(memory, marks)
     }
 
     /// The same of any card.
     pub fn with_card(memory: &'m mut [u8], marks: &'m mut [u8], card: Card) -> Result<Bench<'m>> {
-        let mut bench = Bench::resume(memory, marks, State::default());
-        bench.power_on_as(card)?;
-        Ok(bench)
+        Bench::builder().card(card).lend(memory, marks)
     }
 
-    /// A bench that goes on from a state. It may be any: calls refuse one that is not sound, or that does not fit the memory, with
-    /// `BadBench`.
-    pub fn resume(memory: &'m mut [u8], marks: &'m mut [u8], state: State) -> Bench<'m> {
+    /// A bench with more or fewer records, with records that are lent, or of any card.
+    pub fn builder() -> Builder<'m> {
+        Builder::default()
+    }
+
+    /// A bench that goes on from a state. State and records may be any: calls refuse a state that is not sound, or that does not fit
+    /// records and memory, with `BadBench`. The records need not be those of the calls before, as long as they begin with those in use.
+    pub fn resume(
+        state: State,
+        records: &'m mut [Mapping],
+        memory: &'m mut [u8],
+        marks: &'m mut [u8],
+    ) -> Bench<'m> {
         Bench {
-            memory: Bytes::Lent(memory),
-            marks: Bytes::Lent(marks),
+            records: Lent::Borrowed(records),
+            memory: Lent::Borrowed(memory),
+            marks: Lent::Borrowed(marks),
             state,
         }
     }
@@ -158,10 +137,14 @@ impl<'m> Bench<'m> {
         &self.state
     }
 
-    /// The mappings held, by rising device address.
+    /// The records, as many as mappings can be held. Those behind [`mappings`](Bench::mappings) are stale.
+    pub fn records(&self) -> &[Mapping] {
+        &self.records
+    }
+
+    /// The mappings held, by rising device address: the records in use.
     pub fn mappings(&self) -> &[Mapping] {
-        let table = &self.state.table;
-        &table.entries[..table.count.min(table.entries.len())]
+        &self.records[..self.state.count.min(self.records.len())]
     }
 
     /// Whether the device runs.
@@ -174,13 +157,8 @@ impl<'m> Bench<'m> {
         self.state.card()
     }
 
-    /// Keeps the state that a call gave back, and gives its answer.
-    fn keep(&mut self, kept: Kept) -> Result<u64> {
-        self.state = kept.state;
-        kept.outcome.answer()
-    }
-
-    /// Fresh start of the card with 64 feature bits: all marks 0, memory bytes untouched, no mapping, the device stopped and reset.
+    /// Fresh start of the card with 64 feature bits: all marks 0, memory bytes and records untouched, no mapping, the device stopped and
+    /// reset.
     ///
     /// Refused: `BadBench`.
     pub fn power_on(&mut self) -> Result<()> {
@@ -191,30 +169,38 @@ impl<'m> Bench<'m> {
     ///
     /// Refused: `BadBench`.
     pub fn power_on_as(&mut self, card: Card) -> Result<()> {
-        let kept = raw::power_on(&self.state, card, &self.memory, &mut self.marks);
-        self.keep(kept).map(drop)
+        raw::power_on(
+            &mut self.state,
+            &self.records,
+            &self.memory,
+            &mut self.marks,
+            card,
+        )
+        .answer()
+        .map(drop)
     }
 
     /// A request by target and number, with the bytes of its struct. Gives its result; output fields are written to `buffer`.
     ///
     /// Refused: `BadBench`, `NoSuchRequest`, `Short`, `ArgSize`, then as the request says.
     pub fn request(&mut self, target: Target, number: u32, buffer: &mut [u8]) -> Result<u64> {
-        let kept = raw::request(
-            &self.state,
+        raw::request(
+            &mut self.state,
+            &mut self.records,
             &self.memory,
             &self.marks,
             target.0,
             number,
             buffer,
-        );
-        self.keep(kept)
+        )
+        .answer()
     }
 
     /// Look-up: where a device address lies in memory.
     ///
     /// Refused: `BadBench`, `Range`, `Unmapped`.
     pub fn look_up(&self, device: DeviceAddress) -> Result<Location> {
-        let found = raw::look_up(&self.state, device);
+        let found = raw::look_up(&self.state, &self.records, device);
         found.outcome.answer()?;
         Ok(Location {
             address: found.address,
@@ -226,9 +212,16 @@ impl<'m> Bench<'m> {
     ///
     /// Refused: `BadBench`, `TooLong`, `Range`, then for the first faulty offset `Unmapped`, `NoRight`, `Unwritten`.
     pub fn device_read(&self, device: DeviceAddress, buffer: &mut [u8]) -> Result<()> {
-        raw::device_read(&self.state, &self.memory, &self.marks, device, buffer)
-            .answer()
-            .map(drop)
+        raw::device_read(
+            &self.state,
+            &self.records,
+            &self.memory,
+            &self.marks,
+            device,
+            buffer,
+        )
+        .answer()
+        .map(drop)
     }
 
     /// Card write: stores `bytes` from a device address on, in offset order, and marks them written.
@@ -237,6 +230,7 @@ impl<'m> Bench<'m> {
     pub fn device_write(&mut self, device: DeviceAddress, bytes: &[u8]) -> Result<()> {
         raw::device_write(
             &self.state,
+            &self.records,
             &mut self.memory,
             &mut self.marks,
             device,
@@ -252,6 +246,7 @@ impl<'m> Bench<'m> {
     pub fn host_write(&mut self, address: MemoryAddress, bytes: &[u8]) -> Result<()> {
         raw::host_write(
             &self.state,
+            &self.records,
             &mut self.memory,
             &mut self.marks,
             address,
@@ -265,33 +260,48 @@ impl<'m> Bench<'m> {
     ///
     /// Refused: `BadBench`, `TooLong`, `Range`, `Unwritten`.
     pub fn host_read(&self, address: MemoryAddress, buffer: &mut [u8]) -> Result<()> {
-        raw::host_read(&self.state, &self.memory, &self.marks, address, buffer)
-            .answer()
-            .map(drop)
+        raw::host_read(
+            &self.state,
+            &self.records,
+            &self.memory,
+            &self.marks,
+            address,
+            buffer,
+        )
+        .answer()
+        .map(drop)
     }
 
     /// Forget: `length` bytes from a memory address on count as unwritten again. The bytes stay.
     ///
     /// Refused: `BadBench`, `Range`.
     pub fn invalidate(&mut self, address: MemoryAddress, length: u64) -> Result<()> {
-        raw::invalidate(&self.state, &self.memory, &mut self.marks, address, length)
-            .answer()
-            .map(drop)
+        raw::invalidate(
+            &self.state,
+            &self.records,
+            &self.memory,
+            &mut self.marks,
+            address,
+            length,
+        )
+        .answer()
+        .map(drop)
     }
 
     /// Sets the register of a type (see [`kind`](crate::kind)) and a selector number.
     ///
     /// Refused: `BadBench`, `UnknownPart`, `ReadOnly`, `Header`, `Index`, `Value`, `Mismatch`.
     pub fn set_register(&mut self, kind: u64, selector: u64, value: &[u8]) -> Result<()> {
-        let kept = raw::set_register(&self.state, kind, selector, value);
-        self.keep(kept).map(drop)
+        raw::set_register(&mut self.state, &self.records, kind, selector, value)
+            .answer()
+            .map(drop)
     }
 
     /// Reads a register: its value goes to the buffer's start. Gives the value's length.
     ///
     /// Refused: `BadBench`, `UnknownPart`, `Header`, `Index`, `Unset`, `NoSpace`.
     pub fn read_register(&self, kind: u64, selector: u64, buffer: &mut [u8]) -> Result<usize> {
-        raw::read_register(&self.state, kind, selector, buffer)
+        raw::read_register(&self.state, &self.records, kind, selector, buffer)
             .answer()
             .map(length)
     }
@@ -301,7 +311,9 @@ impl<'m> Bench<'m> {
     /// Refused: `BadBench`, `Running`, `TooLong`, then for the first faulty part `Truncated`, `Header`, `UnknownPart`, `Index`,
     /// `Value`, `Twice`, `Mismatch`, and at the end `Missing`.
     pub fn load_parts(&mut self, stream: &[u8]) -> Result<()> {
-        raw::load_parts(&mut self.state, stream).answer().map(drop)
+        raw::load_parts(&mut self.state, &self.records, stream)
+            .answer()
+            .map(drop)
     }
 
     /// Saves the set registers as a stream of parts at the buffer's start. Gives its length, 41 to [`SAVED_MAX`].
@@ -310,23 +322,25 @@ impl<'m> Bench<'m> {
     ///
     /// [`SAVED_MAX`]: crate::SAVED_MAX
     pub fn save_parts(&self, buffer: &mut [u8]) -> Result<usize> {
-        raw::save_parts(&self.state, buffer).answer().map(length)
+        raw::save_parts(&self.state, &self.records, buffer)
+            .answer()
+            .map(length)
     }
 
     /// Stops the device, whether or not it runs.
     ///
     /// Refused: `BadBench`.
     pub fn stop(&mut self) -> Result<()> {
-        let kept = raw::stop(&self.state);
-        self.keep(kept).map(drop)
+        raw::stop(&mut self.state, &self.records).answer().map(drop)
     }
 
     /// Starts the device, whether or not it runs.
     ///
     /// Refused: `BadBench`.
     pub fn start(&mut self) -> Result<()> {
-        let kept = raw::start(&self.state);
-        self.keep(kept).map(drop)
+        raw::start(&mut self.state, &self.records)
+            .answer()
+            .map(drop)
     }
 }
 

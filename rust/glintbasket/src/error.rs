@@ -27,7 +27,8 @@ macro_rules! refusals {
 }
 
 refusals! {
-    /// Marks are not as many as memory asks for, memory exceeds 2^30 bytes or has not the noted length, or the kept state is not sound.
+    /// Marks are not as many as memory asks for, memory exceeds 2^30 bytes or has not the noted length, there are more than 4,096 records
+    /// or fewer than are in use, or the kept state or a record in use is not sound.
     BadBench = 1,
     /// The target has no request of this number.
     NoSuchRequest = 2,
@@ -47,7 +48,7 @@ refusals! {
     Range = 9,
     /// The range shares a device address with a held mapping.
     Overlap = 10,
-    /// 64 mappings are held.
+    /// As many mappings are held as there are records.
     NoRoom = 11,
     /// The range holds some but not all of a mapping.
     Cuts = 12,

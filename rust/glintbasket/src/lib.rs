@@ -55,12 +55,29 @@
 //! # }
 //! ```
 //!
+//! # Records
+//!
+//! The table of mappings is a slice of records, as many as mappings can be held: 64 of the bench's own where nothing is said, up to
+//! [`RECORDS_LIMIT`] of its own or lent by [`Bench::builder`].
+//!
+//! ```
+//! use glintbasket::{Bench, DeviceAddress, Error, MemoryAddress, Refusal, Rights};
+//!
+//! fn main() -> Result<(), Error> {
+//!     let mut bench = Bench::builder().record_count(1).own(vec![0; 4096])?;
+//!     bench.map(MemoryAddress(0), DeviceAddress(0), 4096, Rights::READ)?;
+//!     let full = bench.map(MemoryAddress(0), DeviceAddress(4096), 4096, Rights::READ);
+//!     assert_eq!(full.unwrap_err().refusal, Refusal::NoRoom);
+//!     Ok(())
+//! }
+//! ```
+//!
 //! # What remains for the caller
 //!
 //! Every state, number, length and order of calls has an answer. Three things no call can test, and in safe Rust the types see to them:
 //!
-//! 1. what is lent has as many bytes as its length says (a slice);
-//! 2. memory, marks, the buffer of one call and the state do not overlap (`&mut`);
+//! 1. what is lent has as many bytes or records as its length says (a slice);
+//! 2. records, memory, marks, the buffer of one call and the state do not overlap (`&mut`);
 //! 3. they are used by one thread at a time (`&mut`).
 //!
 //! From C they are the caller's; `include/glintbasket.h` has the same list.
@@ -78,9 +95,11 @@
 
 mod address;
 mod bench;
+mod builder;
 mod card;
 mod check_save;
 mod error;
+mod lent;
 mod parts;
 #[allow(unsafe_code)]
 pub mod raw;
@@ -88,12 +107,13 @@ mod requests;
 
 pub use address::{DeviceAddress, MemoryAddress, Rights};
 pub use bench::{marks_len, Bench, Location, OwnedBench, Target};
+pub use builder::Builder;
 pub use card::Card;
 pub use check_save::{check_save, SaveCheck};
 pub use error::{Error, Refusal, Result};
 pub use parts::{Part, Parts, PART_HEADER};
 #[doc(inline)]
-pub use raw::{Mapping, Register, Registers, State, Table};
+pub use raw::{Mapping, Register, Registers, State};
 pub use requests::{number, DeviceInfo, IommuInfo, IrqInfo, RegionInfo};
 
 /// The size of a page.
@@ -104,8 +124,10 @@ pub const DEVICE_LIMIT: u64 = 1 << 48;
 pub const MEMORY_LIMIT: usize = 1 << 30;
 /// One transfer has at most so many bytes, and so has a stream.
 pub const TRANSFER_LIMIT: usize = 65536;
-/// How many mappings a table holds.
-pub const MAPPINGS: usize = 64;
+/// At most so many records may be lent, and so mappings be held.
+pub const RECORDS_LIMIT: usize = 4096;
+/// How many records a bench has where nothing is said.
+pub const DEFAULT_RECORDS: usize = 64;
 /// Saving never writes more bytes, whatever the card (see [`Card::saved_max`]).
 pub const SAVED_MAX: usize = Card::Features128.saved_max();
 

@@ -4,8 +4,8 @@ mod common;
 
 use common::{bench, refused, GARBAGE, PAGE};
 use glintbasket::{
-    marks_len, Bench, DeviceAddress, Location, MemoryAddress, OwnedBench, Refusal, Rights,
-    DEVICE_LIMIT, MEMORY_LIMIT, TRANSFER_LIMIT,
+    marks_len, Bench, Card, DeviceAddress, Location, Mapping, MemoryAddress, OwnedBench, Refusal,
+    Result, Rights, DEFAULT_RECORDS, DEVICE_LIMIT, MEMORY_LIMIT, RECORDS_LIMIT, TRANSFER_LIMIT,
 };
 
 // ---- making a bench
@@ -89,41 +89,148 @@ fn bench_without_memory_moves_no_bytes() {
     );
 }
 
+/// A record that nobody put to use.
+const STALE: Mapping = Mapping {
+    device: DeviceAddress(u64::MAX),
+    memory: MemoryAddress(7),
+    size: 1,
+    rights: Rights(9),
+};
+
+fn page_at(device: u64) -> Mapping {
+    Mapping {
+        device: DeviceAddress(device),
+        memory: MemoryAddress(0),
+        size: PAGE,
+        rights: Rights::READ,
+    }
+}
+
+fn map_page(bench: &mut Bench, device: u64) -> Result<()> {
+    bench.map(MemoryAddress(0), DeviceAddress(device), PAGE, Rights::READ)
+}
+
 #[test]
-fn resume_goes_on_from_a_state() {
+fn resume_goes_on_from_a_state_with_other_records() {
     let mut memory = [GARBAGE; PAGE as usize];
     let mut marks = [0; marks_len(PAGE as usize)];
-    let mut bench = Bench::new(&mut memory, &mut marks).unwrap();
-    let read = Rights::READ;
-    bench
-        .map(MemoryAddress(0), DeviceAddress(0), PAGE, read)
+    let mut records = [STALE; 2];
+    let mut bench = Bench::builder()
+        .records(&mut records)
+        .lend(&mut memory, &mut marks)
         .unwrap();
+    map_page(&mut bench, 0).unwrap();
+    map_page(&mut bench, PAGE).unwrap();
+    assert_eq!(map_page(&mut bench, 2 * PAGE), refused(Refusal::NoRoom, 0));
     bench.host_write(MemoryAddress(7), b"!").unwrap();
     let state = *bench.state();
 
-    let bench = Bench::resume(&mut memory, &mut marks, state);
+    // More records, of which the first are those in use.
+    let mut more = [records[0], records[1], STALE];
+    let mut bench = Bench::resume(state, &mut more, &mut memory, &mut marks);
     let mut byte = [0];
     assert_eq!(bench.device_read(DeviceAddress(7), &mut byte), Ok(()));
     assert_eq!(&byte, b"!");
+    assert_eq!(map_page(&mut bench, 2 * PAGE), Ok(()));
+    let state = *bench.state();
+    assert_eq!(more[2], page_at(2 * PAGE));
+
+    // Fewer than are in use.
+    let bench = Bench::resume(state, &mut more[..2], &mut memory, &mut marks);
+    assert_eq!(bench.mappings().len(), 2);
+    assert_eq!(
+        bench.look_up(DeviceAddress(0)),
+        refused(Refusal::BadBench, 0)
+    );
 }
 
 #[test]
 fn resume_of_an_unsound_state_is_refused_by_every_call_but_power_on() {
-    let mut memory = [0; 16];
-    let mut marks = [0; 2];
+    let (mut memory, mut marks, mut records) = ([0; 16], [0; 2], [STALE; 3]);
     let mut state = *Bench::new(&mut memory, &mut marks).unwrap().state();
-    state.table.count = 65;
-    let mut bench = Bench::resume(&mut memory, &mut marks, state);
-    assert_eq!(bench.mappings().len(), 64);
+    state.count = 4;
+    let mut bench = Bench::resume(state, &mut records, &mut memory, &mut marks);
+    assert_eq!(bench.mappings().len(), 3);
     assert_eq!(bench.stop(), refused(Refusal::BadBench, 0));
     assert_eq!(
         bench.look_up(DeviceAddress(0)),
         refused(Refusal::BadBench, 0)
     );
     assert_eq!(bench.api_version(), refused(Refusal::BadBench, 0));
-    assert_eq!(bench.state().table.count, 65);
+    assert_eq!(bench.state().count, 4);
     assert_eq!(bench.power_on(), Ok(()));
     assert_eq!(bench.api_version(), Ok(0));
+    assert_eq!(bench.records(), [STALE; 3]);
+}
+
+// ---- records
+
+#[test]
+fn a_bench_has_64_records_where_nothing_is_said() {
+    assert_eq!(bench(1).records().len(), DEFAULT_RECORDS);
+    let (mut memory, mut marks) = ([0; 8], [0]);
+    let bench = Bench::with_card(&mut memory, &mut marks, Card::Features128).unwrap();
+    assert_eq!(bench.records().len(), 64);
+    assert_eq!(bench.card(), Some(Card::Features128));
+}
+
+#[test]
+fn as_many_mappings_are_held_as_there_are_records() {
+    for count in [0, 1, 63, 64, 65, RECORDS_LIMIT - 1, RECORDS_LIMIT] {
+        let memory = vec![GARBAGE; PAGE as usize];
+        let mut bench = Bench::builder().record_count(count).own(memory).unwrap();
+        // Each goes below all others.
+        for place in (0..count as u64).rev() {
+            assert_eq!(map_page(&mut bench, place * PAGE), Ok(()));
+        }
+        assert_eq!(
+            map_page(&mut bench, count as u64 * PAGE),
+            refused(Refusal::NoRoom, 0)
+        );
+        assert_eq!(bench.mappings().len(), count);
+        for place in 0..count {
+            assert_eq!(bench.mappings()[place], page_at(place as u64 * PAGE));
+        }
+        assert_eq!(
+            bench.unmap(DeviceAddress(0), DEVICE_LIMIT),
+            Ok(count as u64 * PAGE)
+        );
+    }
+}
+
+#[test]
+fn more_than_4096_records_are_refused() {
+    for count in [RECORDS_LIMIT + 1, usize::MAX] {
+        let made = Bench::builder().record_count(count).own(Vec::new());
+        assert_eq!(made.map(drop), refused(Refusal::BadBench, 0));
+    }
+    let mut records = vec![STALE; RECORDS_LIMIT + 1];
+    let made = Bench::builder().records(&mut records).own(Vec::new());
+    assert_eq!(made.map(drop), refused(Refusal::BadBench, 0));
+    assert!(records.iter().all(|record| *record == STALE));
+}
+
+/// Rule 1.17: without the second and third of four, an unmap leaves the first, the fourth, the third and the fourth.
+#[test]
+fn records_past_the_count_keep_what_they_held() {
+    let (mut memory, mut marks, mut records) = ([0; 4096], [0; 512], [STALE; 6]);
+    let mut bench = Bench::builder()
+        .records(&mut records)
+        .lend(&mut memory, &mut marks)
+        .unwrap();
+    assert_eq!(bench.records(), [STALE; 6]);
+    let [a, b, c, d] = [1, 2, 3, 4].map(|place| page_at(place * PAGE));
+    for mapping in [c, a, d, b] {
+        map_page(&mut bench, mapping.device.0).unwrap();
+    }
+    assert_eq!(bench.records(), [a, b, c, d, STALE, STALE]);
+    assert_eq!(bench.unmap(b.device, 2 * PAGE), Ok(2 * PAGE));
+    assert_eq!(bench.mappings(), [a, d]);
+    assert_eq!(bench.records(), [a, d, c, d, STALE, STALE]);
+    assert_eq!(bench.look_up(c.device), refused(Refusal::Unmapped, 0));
+    bench.power_on().unwrap();
+    assert_eq!(bench.mappings(), []);
+    assert_eq!(records, [a, d, c, d, STALE, STALE]);
 }
 
 #[test]

@@ -5,10 +5,11 @@ use glintbasket::{kind, Card, DeviceAddress, MemoryAddress, Rights};
 
 const PAGE: usize = 4096;
 
-fn fresh(memory: &[u8], marks: &mut [u8]) -> State {
-    let kept = power_on(&State::default(), Card::Features64, memory, marks);
-    assert_eq!(kept.outcome, done(0));
-    kept.state
+fn fresh(records: &[Mapping], memory: &[u8], marks: &mut [u8]) -> State {
+    let mut state = State::default();
+    let outcome = power_on(&mut state, records, memory, marks, Card::Features64);
+    assert_eq!(outcome, done(0));
+    state
 }
 
 fn done(result: u64) -> Outcome {
@@ -42,28 +43,42 @@ fn map_request(memory: u64, device: u64, size: u64, rights: u32) -> [u8; 32] {
 #[test]
 fn memory_and_the_table_cross() {
     let (mut memory, mut marks) = (vec![7; 2 * PAGE], vec![9; 2 * PAGE / 8]);
-    let state = fresh(&memory, &mut marks);
-    assert_eq!(state.memory_length, 8192);
+    let mut records = [Mapping::default(); 2];
+    let mut state = fresh(&records, &memory, &mut marks);
+    assert_eq!((state.memory_length, state.count), (8192, 0));
     assert!(marks.iter().all(|mark| *mark == 0));
 
     let mut buffer = map_request(4096, 0x10000, 4096, 3);
-    let kept = request(&state, &memory, &marks, 0, 113, &mut buffer);
-    assert_eq!(kept.outcome, done(0));
-    let state = kept.state;
-    assert_eq!(state.table.count, 1);
-    assert_eq!(state.table.entries[0].memory, MemoryAddress(4096));
-    assert_eq!(state.table.entries[0].device, DeviceAddress(0x10000));
+    let mut map = |records: &mut [Mapping]| {
+        let outcome = request(&mut state, records, &memory, &marks, 0, 113, &mut buffer);
+        (outcome, state.count)
+    };
+    assert_eq!(map(&mut []), (refused(11, 0), 0), "no records");
+    assert_eq!(map(&mut records), (done(0), 1));
+    assert_eq!(records[0].memory, MemoryAddress(4096));
+    assert_eq!(records[0].device, DeviceAddress(0x10000));
+    assert_eq!((records[0].size, records[0].rights), (4096, Rights(3)));
+    assert_eq!(records[1], Mapping::default());
 
-    let found = look_up(&state, DeviceAddress(0x10004));
+    let found = look_up(&state, &records, DeviceAddress(0x10004));
     assert_eq!(
         (found.outcome, found.address, found.rights),
         (done(0), MemoryAddress(4100), Rights(3))
     );
-    assert_eq!(look_up(&state, DeviceAddress(0)).outcome, refused(14, 0));
+    assert_eq!(
+        look_up(&state, &records, DeviceAddress(0)).outcome,
+        refused(14, 0)
+    );
+    assert_eq!(
+        look_up(&state, &[], DeviceAddress(0x10004)).outcome,
+        refused(1, 0),
+        "fewer records than are in use"
+    );
 
     assert_eq!(
         device_write(
             &state,
+            &records,
             &mut memory,
             &mut marks,
             DeviceAddress(0x10001),
@@ -75,36 +90,62 @@ fn memory_and_the_table_cross() {
     assert_eq!(marks[4096 / 8], 0b0110);
     let mut read = [0; 2];
     assert_eq!(
-        device_read(&state, &memory, &marks, DeviceAddress(0x10001), &mut read),
+        device_read(
+            &state,
+            &records,
+            &memory,
+            &marks,
+            DeviceAddress(0x10001),
+            &mut read
+        ),
         done(0)
     );
     assert_eq!(read, [1, 2]);
     assert_eq!(
-        device_read(&state, &memory, &marks, DeviceAddress(0x10002), &mut read),
+        device_read(
+            &state,
+            &records,
+            &memory,
+            &marks,
+            DeviceAddress(0x10002),
+            &mut read
+        ),
         refused(16, 1)
     );
 
     assert_eq!(
-        host_write(&state, &mut memory, &mut marks, MemoryAddress(5), &[3]),
+        host_write(
+            &state,
+            &records,
+            &mut memory,
+            &mut marks,
+            MemoryAddress(5),
+            &[3]
+        ),
         done(0)
     );
     assert_eq!((memory[5], marks[0]), (3, 1 << 5));
     let mut one = [0];
+    let mut load = |marks: &[u8]| {
+        let address = MemoryAddress(5);
+        let outcome = host_read(&state, &records, &memory, marks, address, &mut one);
+        (outcome, one)
+    };
+    assert_eq!(load(&marks), (done(0), [3]));
     assert_eq!(
-        host_read(&state, &memory, &marks, MemoryAddress(5), &mut one),
+        invalidate(&state, &records, &memory, &mut marks, MemoryAddress(5), 1),
         done(0)
     );
-    assert_eq!(one, [3]);
+    assert_eq!(load(&marks), (refused(16, 0), [3]));
     assert_eq!(
-        invalidate(&state, &memory, &mut marks, MemoryAddress(5), 1),
-        done(0)
-    );
-    assert_eq!(
-        host_read(&state, &memory, &marks, MemoryAddress(5), &mut one),
-        refused(16, 0)
-    );
-    assert_eq!(
-        host_read(&state, &memory, &marks, MemoryAddress(8192), &mut []),
+        host_read(
+            &state,
+            &records,
+            &memory,
+            &marks,
+            MemoryAddress(8192),
+            &mut []
+        ),
         done(0),
         "an empty slice"
     );
@@ -113,15 +154,13 @@ fn memory_and_the_table_cross() {
 #[test]
 fn registers_and_streams_cross() {
     let (memory, mut marks) = (vec![0; PAGE], vec![0; PAGE / 8]);
-    let state = fresh(&memory, &mut marks);
-    let kept = set_register(&state, 0x102, 16, &[5, 6]);
-    assert_eq!(kept.outcome, done(0));
-    let state = kept.state;
+    let mut state = fresh(&[], &memory, &mut marks);
+    assert_eq!(set_register(&mut state, &[], 0x102, 16, &[5, 6]), done(0));
     let mut buffer = [0xa5; 80];
-    assert_eq!(read_register(&state, 0x102, 16, &mut buffer), done(2));
+    assert_eq!(read_register(&state, &[], 0x102, 16, &mut buffer), done(2));
     assert_eq!(&buffer[..3], [5, 6, 0xa5]);
 
-    assert_eq!(save_parts(&state, &mut buffer), done(59));
+    assert_eq!(save_parts(&state, &[], &mut buffer), done(59));
     let part = step(&buffer[..59], 24);
     assert_eq!(
         (part.refused, part.end, part.kind, part.selector, part.next),
@@ -131,35 +170,38 @@ fn registers_and_streams_cross() {
     let past = step(&buffer[..59], 60);
     assert_eq!((past.refused, past.code, past.place), (true, 18, 60));
 
-    let reset = request(&state, &memory, &marks, 1, 111, &mut []);
-    assert_eq!(reset.outcome, done(0));
-    let mut loaded = reset.state;
-    assert_eq!(load_parts(&mut loaded, &buffer[..59]), done(0));
-    assert_eq!(loaded, state);
+    let saved = state;
+    assert_eq!(
+        request(&mut state, &mut [], &memory, &marks, 1, 111, &mut []),
+        done(0)
+    );
+    assert_ne!(state, saved);
+    assert_eq!(load_parts(&mut state, &[], &buffer[..59]), done(0));
+    assert_eq!(state, saved);
 
-    let mut running = start(&reset.state).state;
-    let before = running;
+    assert_eq!(start(&mut state, &[]), done(0));
+    let running = state;
     assert!(running.is_running());
-    assert_eq!(load_parts(&mut running, &buffer[..59]), refused(17, 0));
-    assert_eq!(running, before);
-    assert!(!stop(&running).state.is_running());
+    assert_eq!(load_parts(&mut state, &[], &buffer[..59]), refused(17, 0));
+    assert_eq!(state, running);
+    assert_eq!(stop(&mut state, &[]), done(0));
+    assert_eq!(state, saved);
 }
 
 #[test]
 fn slots_tell_where_a_register_is_kept_and_its_size() {
-    let state = fresh(&[], &mut []);
+    let fresh = fresh(&[], &[], &mut []);
     for (slot, (kind, selector, size)) in SLOTS.into_iter().enumerate() {
         let mut value = [0; 33];
         value[0] = (kind != kind::DRIVER_FEATURES) as u8; // that bit is not offered
-        let kept = set_register(&state, kind, selector, &value[..size]);
-        assert_eq!(kept.outcome, done(0), "slot {slot}");
+        let mut state = fresh;
+        let mut set = |value: &[u8]| set_register(&mut state, &[], kind, selector, value);
+        assert_eq!(set(&value[..size]), done(0), "slot {slot}");
+        assert_eq!(set(&value[..size + 1]), refused(22, 0), "slot {slot}");
 
-        let mut registers = state.registers;
+        let mut registers = fresh.registers;
         registers.slots[slot].set = 1;
         registers.slots[slot].bytes.copy_from_slice(&value[..32]);
-        assert_eq!(kept.state.registers, registers, "slot {slot}");
-
-        let long = set_register(&state, kind, selector, &value[..size + 1]);
-        assert_eq!(long.outcome, refused(22, 0), "slot {slot}");
+        assert_eq!(state.registers, registers, "slot {slot}");
     }
 }

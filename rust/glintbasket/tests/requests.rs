@@ -5,7 +5,7 @@ mod common;
 use common::{bench, refused, PAGE};
 use glintbasket::{
     number, DeviceAddress, DeviceInfo, IommuInfo, IrqInfo, Mapping, MemoryAddress, OwnedBench,
-    Refusal, RegionInfo, Result, Rights, Target, DEVICE_LIMIT, MAPPINGS,
+    Refusal, RegionInfo, Result, Rights, Target, DEFAULT_RECORDS, DEVICE_LIMIT,
 };
 
 fn map(bench: &mut OwnedBench, memory: u64, device: u64, size: u64) -> Result<()> {
@@ -145,14 +145,14 @@ fn map_refuses_and_leaves_the_table() {
 #[test]
 fn map_refuses_the_65th_and_uses_a_freed_place() {
     let mut bench = bench(1);
-    for i in 0..MAPPINGS as u64 {
+    for i in 0..DEFAULT_RECORDS as u64 {
         assert_eq!(map(&mut bench, 0, i * PAGE, PAGE), Ok(()));
     }
-    let last = MAPPINGS as u64 * PAGE;
+    let last = DEFAULT_RECORDS as u64 * PAGE;
     assert_eq!(map(&mut bench, 0, last, PAGE), refused(Refusal::NoRoom, 0));
     assert_eq!(bench.unmap(DeviceAddress(0), PAGE), Ok(PAGE));
     assert_eq!(map(&mut bench, 0, last, PAGE), Ok(()));
-    assert_eq!(bench.mappings().len(), MAPPINGS);
+    assert_eq!(bench.mappings().len(), DEFAULT_RECORDS);
 }
 
 #[test]

@@ -27,8 +27,9 @@ check-save
         says whether the bytes of FILE are what saving writes; if not, the place
         of the first byte that no save has there, in which part and field
 
-  --garbage BYTE   what each byte of memory, of an output buffer and each stale
-                   byte starts as, instead of what FILE says (default 0xa5)
+  --garbage BYTE   what each byte of memory, of records, of an output buffer and
+                   each stale byte starts as, instead of what FILE says
+                   (default 0xa5)
   --twice          plays FILE under two garbages, of which one is the complement
                    of the other, and compares every line
   --svg OUT        writes the map as a picture, too

@@ -1,6 +1,6 @@
 //! The map of memory as a picture. What a colour tells, a hatching, a frame or a letter tells as well.
 
-use crate::map_text::{mapping_in_words, refused_in_words};
+use crate::map_text::{mapping_lines, refused_in_words};
 use crate::pages::{range, row_around, stretches, Stretch, Written};
 use crate::play::RefusedByte;
 use glintbasket::{Bench, Rights, PAGE_SIZE};
@@ -163,9 +163,8 @@ impl Picture {
     fn mappings(&mut self, bench: &Bench) {
         let mappings = bench.mappings();
         self.line("head", MARGIN, &format!("Mappings: {}", mappings.len()));
-        for (index, mapping) in mappings.iter().enumerate() {
-            let text = format!("{}  {}", index + 1, mapping_in_words(mapping));
-            self.line("", MARGIN, &text);
+        for (number, text) in mapping_lines(mappings) {
+            self.line("", MARGIN, &format!("{number}  {text}"));
         }
         self.y += 2 * GAP;
     }

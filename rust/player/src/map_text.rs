@@ -1,6 +1,6 @@
 //! The map of memory as text.
 
-use crate::pages::{range, rights_in_words, row_around, runs, Stretch, Written};
+use crate::pages::{range, rights_in_words, row_around, runs, Stretch, Written, TOLD_MAX};
 use crate::play::RefusedByte;
 use glintbasket::{Bench, Mapping, PAGE_SIZE};
 use std::io::{self, Write};
@@ -49,7 +49,10 @@ fn written(stretch: &Stretch) -> String {
     }
 }
 
-/// Mappings by their numbers from 1, as `1, 3 to 5`, or `-` for none.
+/// Of more numbers or mappings than are told one by one, so many of the first and of the last are.
+const ENDS: usize = 8;
+
+/// Mappings by their numbers from 1, as `1, 3 to 5`, or `-` for none; of many the first and the last, and how many there are.
 pub fn numbers(indices: &[usize]) -> String {
     let mut ranges: Vec<(usize, usize)> = Vec::new();
     for number in indices.iter().map(|index| index + 1) {
@@ -61,7 +64,11 @@ pub fn numbers(indices: &[usize]) -> String {
     if ranges.is_empty() {
         return "-".to_string();
     }
-    let told: Vec<String> = ranges.iter().map(|&range| told(range)).collect();
+    let mut told: Vec<String> = ranges.iter().map(|&range| told(range)).collect();
+    if told.len() > TOLD_MAX {
+        told.splice(ENDS..told.len() - ENDS, ["..".to_string()]);
+        return format!("{} ({} in all)", told.join(", "), indices.len());
+    }
     told.join(", ")
 }
 
@@ -78,13 +85,32 @@ fn print_mappings(out: &mut impl Write, mappings: &[Mapping]) -> io::Result<()> 
         return writeln!(out, "mappings: none");
     }
     writeln!(out, "mappings: {}", mappings.len())?;
-    for (index, mapping) in mappings.iter().enumerate() {
-        writeln!(out, "  {:>2}  {}", index + 1, mapping_in_words(mapping))?;
+    for (number, text) in mapping_lines(mappings) {
+        writeln!(out, "  {number:>2}  {text}")?;
     }
     Ok(())
 }
 
-pub fn mapping_in_words(mapping: &Mapping) -> String {
+/// A line for each mapping, with its number; of many for the first and the last, and for those between them one line.
+pub fn mapping_lines(mappings: &[Mapping]) -> Vec<(String, String)> {
+    let mut lines: Vec<_> = (1..)
+        .zip(mappings)
+        .map(|(number, mapping): (usize, _)| (number.to_string(), mapping_in_words(mapping)))
+        .collect();
+    if lines.len() > TOLD_MAX {
+        let between = ENDS..lines.len() - ENDS;
+        let (first, last) = (&mappings[between.start], &mappings[between.end - 1]);
+        let text = format!(
+            "{} more, at device {}",
+            between.len(),
+            range(first.device.0, last.device.0 + last.size - first.device.0)
+        );
+        lines.splice(between, [("..".to_string(), text)]);
+    }
+    lines
+}
+
+fn mapping_in_words(mapping: &Mapping) -> String {
     let device = range(mapping.device.0, mapping.size);
     let memory = range(mapping.memory.0, mapping.size);
     let rights = rights_in_words(mapping.rights);
@@ -128,6 +154,7 @@ pub fn refused_in_words(refused: &RefusedByte) -> String {
 #[cfg(test)]
 mod tests {
     use super::*;
+    use glintbasket::{DeviceAddress, MemoryAddress, Rights};
 
     #[test]
     fn numbers_of_mappings_are_told_in_ranges() {
@@ -135,5 +162,34 @@ mod tests {
         assert_eq!(numbers(&[0]), "1");
         assert_eq!(numbers(&[0, 1]), "1, 2");
         assert_eq!(numbers(&[0, 2, 3, 4, 63]), "1, 3 to 5, 64");
+    }
+
+    #[test]
+    fn many_numbers_and_mappings_are_told_by_their_ends() {
+        let odd: Vec<usize> = (0..2048).map(|i| 2 * i).collect();
+        assert_eq!(
+            numbers(&odd),
+            "1, 3, 5, 7, 9, 11, 13, 15, .., 4081, 4083, 4085, 4087, 4089, 4091, 4093, 4095 (2048 in all)"
+        );
+        let all: Vec<usize> = (0..4096).collect();
+        assert_eq!(numbers(&all), "1 to 4096");
+
+        let mapping = |i: u64| Mapping {
+            device: DeviceAddress(i * 0x2000),
+            memory: MemoryAddress(0),
+            size: 0x1000,
+            rights: Rights::READ,
+        };
+        let mappings: Vec<Mapping> = (0..4096).map(mapping).collect();
+        assert_eq!(mapping_lines(&mappings[..64]).len(), 64);
+        let lines = mapping_lines(&mappings);
+        assert_eq!(lines.len(), 17);
+        let between = (
+            "..".to_string(),
+            "4080 more, at device 0x10000..0x1feefff".to_string(),
+        );
+        assert_eq!(lines[8], between);
+        let last = "device 0x1ffe000..0x1ffefff shows memory 0x0..0xfff: read";
+        assert_eq!(lines[16], ("4096".to_string(), last.to_string()));
     }
 }

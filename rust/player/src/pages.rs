@@ -60,10 +60,14 @@ impl Stretch {
         rights.fold(Rights(0), |all, rights| all | rights)
     }
 
-    /// Whether a following stretch can be told in one line with this one.
-    fn is_like(&self, other: &Stretch) -> bool {
+    /// Whether a following stretch can be told in one line with this one. Where there are many mappings it is enough that both are
+    /// mapped.
+    fn is_like(&self, other: &Stretch, many: bool) -> bool {
         let settled = self.written() != Written::InPart;
-        settled && self.written() == other.written() && self.mappings == other.mappings
+        let both_mapped = !self.mappings.is_empty() && !other.mappings.is_empty();
+        settled
+            && self.written() == other.written()
+            && (self.mappings == other.mappings || many && both_mapped)
     }
 }
 
@@ -82,19 +86,39 @@ pub fn stretches<'b>(bench: &'b Bench, pages: u64) -> impl Iterator<Item = Stret
     })
 }
 
+/// More mappings than these are not told one by one.
+pub const TOLD_MAX: usize = 64;
+
 /// Memory page by page, with runs of pages alike joined. A page written in part stands by itself.
 pub fn runs(bench: &Bench) -> Vec<Stretch> {
+    let many = bench.mappings().len() > TOLD_MAX;
     let mut runs: Vec<Stretch> = Vec::new();
     for page in stretches(bench, 1) {
         match runs.last_mut() {
-            Some(run) if run.is_like(&page) => {
+            Some(run) if run.is_like(&page, many) => {
                 run.length += page.length;
                 run.written_bytes += page.written_bytes;
+                if run.mappings != page.mappings {
+                    run.mappings = merged(&run.mappings, &page.mappings);
+                }
             }
             _ => runs.push(page),
         }
     }
     runs
+}
+
+/// What is in either of two lists that rise; in one pass, since there may be thousands on each page.
+fn merged(one: &[usize], other: &[usize]) -> Vec<usize> {
+    let (mut one, mut other) = (one.iter().peekable(), other.iter().peekable());
+    let mut all = Vec::new();
+    while let Some(next) = [one.peek(), other.peek()].into_iter().flatten().min() {
+        let next = **next;
+        one.next_if(|&&index| index == next);
+        other.next_if(|&&index| index == next);
+        all.push(next);
+    }
+    all
 }
 
 /// `read`, `write` or `read, write`.
@@ -192,6 +216,30 @@ mod tests {
             assert_eq!(pages[3].mappings, none);
             assert_eq!(pages[2].rights(bench), Rights::READ | Rights::WRITE);
         });
+    }
+
+    /// Of more mappings than are told one by one, each of which shows a page of its own, the pages are one run.
+    #[test]
+    fn pages_of_many_mappings_are_one_run() {
+        let count = TOLD_MAX as u64 + 1;
+        let mut bench = Bench::builder()
+            .record_count(count as usize)
+            .own(vec![0; (count + 1) as usize * 0x1000])
+            .unwrap();
+        for page in 0..count {
+            assert_eq!(runs(&bench).len() as u64, page + 1);
+            let (memory, device) = (MemoryAddress(page << 12), DeviceAddress(page << 12));
+            bench.map(memory, device, 0x1000, Rights::READ).unwrap();
+        }
+        let runs = runs(&bench);
+        let told: Vec<_> = runs.iter().map(|r| (r.pages(), r.mappings.len())).collect();
+        assert_eq!(told, [(count, count as usize), (1, 0)]);
+    }
+
+    #[test]
+    fn lists_are_merged_in_order() {
+        assert_eq!(merged(&[0, 2, 5], &[1, 2, 9]), [0, 1, 2, 5, 9]);
+        assert_eq!(merged(&[], &[3]), [3]);
     }
 
     #[test]

@@ -3,11 +3,13 @@
 use crate::answer::Answer;
 use crate::session::{output_size, Call, Pattern, Session, Step};
 use glintbasket::{
-    check_save, marks_len, Bench, Card, DeviceAddress, Error, MemoryAddress, Parts, Refusal, Target,
+    check_save, marks_len, Bench, Card, DeviceAddress, Error, Mapping, MemoryAddress, Parts,
+    Refusal, Rights, Target,
 };
 
-/// A bench's memory, each byte of which starts as the session's garbage says, and its marks.
+/// A bench's records and memory, each byte of which starts as the session's garbage says, and its marks.
 pub struct Store {
+    records: Vec<Mapping>,
     memory: Vec<u8>,
     marks: Vec<u8>,
     garbage: u8,
@@ -19,6 +21,7 @@ impl Store {
     pub fn new(session: &Session, garbage: u8) -> Result<Store, String> {
         let size = session.memory_size;
         Ok(Store {
+            records: vec![record(garbage); session.records],
             memory: filled(size, garbage)?,
             marks: filled(marks_len(size), 0)?,
             garbage,
@@ -29,9 +32,23 @@ impl Store {
     /// A player on a fresh bench.
     pub fn player(&mut self) -> Player<'_> {
         let garbage = self.garbage;
-        let bench = Bench::with_card(&mut self.memory, &mut self.marks, self.card)
-            .expect("memory within the limit, with its marks");
+        let bench = Bench::builder()
+            .records(&mut self.records)
+            .card(self.card)
+            .lend(&mut self.memory, &mut self.marks)
+            .expect("records and memory within their limits, with its marks");
         Player { bench, garbage }
+    }
+}
+
+/// A record that holds this byte.
+fn record(byte: u8) -> Mapping {
+    let number = u64::from_ne_bytes([byte; 8]);
+    Mapping {
+        device: DeviceAddress(number),
+        memory: MemoryAddress(number),
+        size: number,
+        rights: Rights(u32::from_ne_bytes([byte; 4])),
     }
 }
 

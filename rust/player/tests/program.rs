@@ -317,6 +317,31 @@ last refused byte: line 2, refused 14 Unmapped at 0: device address 0x5, in no m
 }
 
 #[test]
+fn show_of_thousands_of_mappings_is_short() {
+    let mut text = "memory 0x1000000 mappings 4096\n".to_string();
+    for i in 0..4096 {
+        let (memory, device, flags) = (i * 7 % 4096 * 4096, i * 8192, 1 + i % 3);
+        text += &format!(
+            "request container map flags={flags} memory={memory} device={device} size=4096 => ok 0\n"
+        );
+    }
+    text += "request container map flags=1 device=4096 size=4096 => refused 11 NoRoom at 0\n";
+    let session = file("thousands.session", &text);
+    let svg = path("thousands.svg");
+    let output = run(&["show", "--svg", svg.to_str().unwrap(), &session]);
+    assert_eq!(output.status.code(), Some(0));
+    let shown = String::from_utf8(output.stdout).unwrap();
+    assert!(shown.lines().count() < 40, "{shown}");
+    let run = "  0x0..0xffffff               4096  unwritten                     1 to 4096\n";
+    assert!(shown.contains(run), "{shown}");
+    let between = "..  4080 more, at device 0x10000..0x1feefff";
+    assert!(shown.contains(between), "{shown}");
+    let picture = fs::read_to_string(svg).unwrap();
+    assert!(picture.contains(between));
+    assert_eq!(picture.matches("shows memory").count(), 16);
+}
+
+#[test]
 fn show_tells_the_last_of_several_refused_bytes() {
     let session = file(
         "last.session",

@@ -4,7 +4,10 @@ use crate::answer::{refuse_if, Answer, Refusal};
 use crate::registers::{self, Registers, Words};
 
 pub const PAGE: u64 = 4_096;
-pub const MAPPING_LIMIT: usize = 64;
+/// How many records may be lent.
+pub const RECORD_LIMIT: usize = 4_096;
+/// How many there are where nothing is said.
+pub const DEFAULT_RECORDS: usize = 64;
 pub const MEMORY_LIMIT: u128 = 1 << 30;
 /// Device addresses lie below this.
 pub const DEVICE_LIMIT: u128 = 1 << 48;
@@ -80,6 +83,7 @@ impl DeviceRange {
     }
 }
 
+/// A mapping, and so what a record holds.
 #[derive(Clone, Copy, Debug, PartialEq, Eq)]
 pub struct Mapping {
     pub memory: MemoryAddress,
@@ -90,6 +94,17 @@ pub struct Mapping {
 }
 
 impl Mapping {
+    /// A record whose every byte is this one.
+    pub fn filled(byte: u8) -> Mapping {
+        let number = u64::from_le_bytes([byte; 8]);
+        Mapping {
+            memory: MemoryAddress(number),
+            device: DeviceAddress(number),
+            size: number,
+            rights: u64::from(u32::from_le_bytes([byte; 4])),
+        }
+    }
+
     pub fn range(&self) -> DeviceRange {
         DeviceRange::new(self.device, self.size)
     }
@@ -122,13 +137,15 @@ impl Mapping {
     }
 }
 
-/// The kept state.
+/// The kept state, with the records that are lent beside it.
 #[derive(Clone, Debug, PartialEq, Eq)]
 pub struct State {
     /// The memory's length at the fresh start.
     pub noted_length: u64,
-    /// By rising device address.
-    pub mappings: Vec<Mapping>,
+    /// All that are lent. Those past the count are stale.
+    pub records: Vec<Mapping>,
+    /// How many of them are in use; it may say more than there are.
+    pub count: u64,
     pub running: bool,
     /// Which card it is: the words of its features.
     pub words: Words,
@@ -136,26 +153,34 @@ pub struct State {
 }
 
 impl State {
-    /// What a fresh start of the first card on `length` bytes leaves.
+    /// What a fresh start of the first card on `length` bytes leaves, with records of zeros.
     pub fn fresh(length: u64) -> State {
-        State::fresh_card(1, length)
+        State::fresh_card(1, length, vec![Mapping::filled(0); DEFAULT_RECORDS])
     }
 
-    /// What a fresh start of a card on `length` bytes leaves.
-    pub fn fresh_card(words: Words, length: u64) -> State {
+    /// What a fresh start of a card on `length` bytes leaves, with these records.
+    pub fn fresh_card(words: Words, length: u64, records: Vec<Mapping>) -> State {
         State {
             noted_length: length,
-            mappings: Vec::new(),
+            records,
+            count: 0,
             running: false,
             words,
             registers: registers::reset(),
         }
     }
 
+    /// The records in use, as far as there are so many: the mappings that are held.
+    pub fn mappings(&self) -> &[Mapping] {
+        let held = u128::from(self.count).min(self.records.len() as u128);
+        &self.records[..held as usize]
+    }
+
     pub fn sound(&self) -> bool {
         u128::from(self.noted_length) <= MEMORY_LIMIT
-            && self.mappings.len() <= MAPPING_LIMIT
-            && self.mappings.iter().all(|m| m.sound(self.noted_length))
+            && self.records.len() <= RECORD_LIMIT
+            && u128::from(self.count) <= self.records.len() as u128
+            && self.mappings().iter().all(|m| m.sound(self.noted_length))
             && self.rising_and_apart()
             && registers::sound(self.words, &self.registers)
     }
@@ -163,7 +188,7 @@ impl State {
     /// Each mapping ends at or below the next one's start: adjoining is apart. As none is empty,
     /// they rise.
     fn rising_and_apart(&self) -> bool {
-        self.mappings
+        self.mappings()
             .windows(2)
             .all(|two| two[0].range().end <= two[1].range().first)
     }
@@ -175,7 +200,7 @@ impl State {
 
     /// Check 1 of a call that takes memory and marks.
     pub fn check_bench(&self, memory: &[u8], marks: &[u8]) -> Answer<()> {
-        check_lengths(memory.len(), marks.len())?;
+        check_lengths(self.records.len(), memory.len(), marks.len())?;
         refuse_if(
             memory.len() as u128 != u128::from(self.noted_length),
             Refusal::BadBench,
@@ -185,23 +210,25 @@ impl State {
 }
 
 /// The causes of refusal 1 that a fresh start knows, too.
-fn check_lengths(memory: usize, marks: usize) -> Answer<()> {
+fn check_lengths(records: usize, memory: usize, marks: usize) -> Answer<()> {
+    refuse_if(records > RECORD_LIMIT, Refusal::BadBench)?;
     refuse_if(marks != mark_bytes(memory), Refusal::BadBench)?;
     refuse_if(memory as u128 > MEMORY_LIMIT, Refusal::BadBench)
 }
 
-/// Looks at nothing of the state that it replaces, and leaves memory bytes untouched.
+/// Looks at nothing of the state that it replaces, and leaves memory bytes and records untouched.
 pub fn fresh_start(
     state: &mut State,
     words: Words,
     memory: &[u8],
     marks: &mut [u8],
 ) -> Answer<u64> {
-    check_lengths(memory.len(), marks.len())?;
+    check_lengths(state.records.len(), memory.len(), marks.len())?;
     for place in 0..memory.len() {
         mark(marks, place, false);
     }
-    *state = State::fresh_card(words, memory.len() as u64);
+    let records = std::mem::take(&mut state.records);
+    *state = State::fresh_card(words, memory.len() as u64, records);
     Ok(0)
 }
 
@@ -241,9 +268,11 @@ mod tests {
         }
     }
 
+    /// Two pages, and as many records as mappings are held.
     fn two_pages(mappings: Vec<Mapping>) -> State {
         State {
-            mappings,
+            count: mappings.len() as u64,
+            records: mappings,
             ..State::fresh(8_192)
         }
     }
@@ -316,12 +345,12 @@ mod tests {
     #[test]
     fn memory_has_at_most_2_to_the_30_bytes() {
         let limit = 1 << 30;
-        assert_eq!(check_lengths(limit, limit / 8), Ok(()));
+        assert_eq!(check_lengths(0, limit, limit / 8), Ok(()));
         assert_eq!(
-            check_lengths(limit + 1, limit / 8 + 1),
+            check_lengths(0, limit + 1, limit / 8 + 1),
             Err(Refusal::BadBench.into())
         );
-        assert_eq!(check_lengths(0, 0), Ok(()));
+        assert_eq!(check_lengths(0, 0, 0), Ok(()));
     }
 
     /// Rule 1.10: nothing of the old state is looked at or kept.
@@ -332,8 +361,8 @@ mod tests {
         let memory = vec![7; 100];
         let mut marks = vec![255; 13];
         assert_eq!(fresh_start(&mut state, 1, &memory, &mut marks), Ok(0));
-        assert_eq!(state, State::fresh(100));
-        assert!(!state.running);
+        assert_eq!(state, State::fresh_card(1, 100, unsound().records));
+        assert_eq!((state.running, state.count), (false, 0));
         assert_eq!(memory, vec![7; 100]);
         assert_eq!(marks[..12], [0; 12]);
         assert_eq!(marks[12], 0xf0);
@@ -401,16 +430,45 @@ mod tests {
         assert!(!two_pages(vec![low, low]).sound());
     }
 
-    /// Rule 1.12: 64 are sound, 65 are not.
+    fn many(count: u64) -> Vec<Mapping> {
+        (0..count)
+            .map(|i| mapping(0, i * 4_096, 4_096, 3))
+            .collect()
+    }
+
+    /// Rules 1.8 and 2.6: 4,096 records may be lent, 4,097 may not, used or not; a fresh start asks it too.
     #[test]
-    fn a_state_holds_at_most_64_mappings() {
-        let many = |count: u64| {
-            (0..count)
-                .map(|i| mapping(0, i * 4_096, 4_096, 3))
-                .collect()
-        };
-        assert!(two_pages(many(64)).sound());
-        assert!(!two_pages(many(65)).sound());
+    fn at_most_4096_records_are_lent() {
+        assert!(two_pages(many(4_096)).sound());
+        let mut state = two_pages(many(4_097));
+        assert!(!state.sound());
+        state.count = 0;
+        assert!(!state.sound());
+        let before = state.clone();
+        assert_eq!(fresh_start(&mut state, 1, &[], &mut []), BAD_BENCH);
+        assert_eq!(state, before);
+        state.records.pop();
+        state.count = u64::MAX;
+        let records = state.records.clone();
+        assert_eq!(fresh_start(&mut state, 1, &[], &mut []), Ok(0));
+        assert_eq!((state.count, &state.records), (0, &records));
+    }
+
+    /// Rules 1.12 and 1.17: the count is no more than there are records, and stale ones are not judged.
+    #[test]
+    fn records_past_the_count_may_hold_anything() {
+        let mut state = two_pages(many(3));
+        state.records.push(mapping(1, 1, 1, 9));
+        assert!(state.sound());
+        for count in [4, 5, u64::MAX] {
+            state.count = count;
+            assert!(!state.sound(), "{count}");
+        }
+        assert_eq!(state.mappings().len(), 4);
+        state.records.clear();
+        assert!(!state.sound());
+        state.count = 0;
+        assert!(state.sound(), "no records at all");
     }
 
     /// Rule 1.12: a condition of its own, also with an empty table.

@@ -145,7 +145,7 @@ mod tests {
 
     /// What a card saves that has these queues, by selector, and nothing else but its status.
     fn saved(words: Words, queues: &[(u64, [u8; 32])]) -> Vec<u8> {
-        let mut state = State::fresh_card(words, 0);
+        let mut state = State::fresh_card(words, 0, Vec::new());
         for (selector, value) in queues {
             set_register(&mut state, QUEUE, *selector, value).expect("a good queue");
         }

@@ -2,21 +2,27 @@
 
 use crate::answer::{refuse_if, Answer, Refusal};
 use crate::bench::{
-    is_written, mark, DeviceAddress, MemoryAddress, State, DEVICE_LIMIT, LENGTH_LIMIT, READ, WRITE,
+    is_written, mark, DeviceAddress, Mapping, MemoryAddress, State, DEVICE_LIMIT, LENGTH_LIMIT,
+    READ, WRITE,
 };
 
-/// The memory address and the rights that a device address has, if a mapping holds it.
-fn translate(state: &State, address: u128) -> Option<(MemoryAddress, u64)> {
-    let mapping = state.mappings.iter().find(|m| m.holds(address))?;
+/// The mapping that holds a device address.
+fn holder(state: &State, address: u128) -> Option<&Mapping> {
+    state.mappings().iter().find(|m| m.holds(address))
+}
+
+/// The memory address that a mapping shows at a device address that it holds.
+fn shown(mapping: &Mapping, address: u128) -> MemoryAddress {
     let distance = (address - mapping.device.whole()) as u64; // below the mapping's size
-    Some((MemoryAddress(mapping.memory.0 + distance), mapping.rights))
+    MemoryAddress(mapping.memory.0 + distance)
 }
 
 /// Takes no memory and marks, asks for no right, and gives 14 at 0.
 pub fn look_up(state: &State, device: DeviceAddress) -> Answer<(MemoryAddress, u64)> {
     state.check_sound()?;
     refuse_if(device.whole() >= DEVICE_LIMIT, Refusal::Range)?;
-    translate(state, device.whole()).ok_or(Refusal::Unmapped.into())
+    let mapping = holder(state, device.whole()).ok_or(Refusal::Unmapped)?;
+    Ok((shown(mapping, device.whole()), mapping.rights))
 }
 
 /// Where each byte of a card move lies in memory, or the fault of the first offset that has one:
@@ -34,10 +40,16 @@ fn card_places(
         Refusal::Range,
     )?;
     let mut places = Vec::new();
+    // The mapping of the offset before is asked first: there may be thousands. They lie apart, so no other holds what it holds.
+    let mut last = None;
     for offset in 0..length as u64 {
         let address = device.whole() + u128::from(offset);
-        let (memory, rights) = translate(state, address).ok_or(Refusal::Unmapped.at(offset))?;
-        refuse_if(rights & right == 0, Refusal::NoRight.at(offset))?;
+        last = last
+            .filter(|m: &&Mapping| m.holds(address))
+            .or_else(|| holder(state, address));
+        let mapping = last.ok_or(Refusal::Unmapped.at(offset))?;
+        refuse_if(mapping.rights & right == 0, Refusal::NoRight.at(offset))?;
+        let memory = shown(mapping, address);
         if let Some(marks) = marks_to_read {
             let written = is_written(marks, memory.0 as usize);
             refuse_if(!written, Refusal::Unwritten.at(offset))?;
@@ -144,7 +156,7 @@ pub fn forget(
 mod tests {
     use super::*;
     use crate::answer::Refused;
-    use crate::bench::{mark_bytes, Mapping};
+    use crate::bench::mark_bytes;
 
     const LIMIT: u64 = 1 << 48;
 
@@ -157,14 +169,15 @@ mod tests {
     /// Memory of garbage with mappings: memory address, device address, size, rights.
     fn bench(length: usize, mappings: &[(u64, u64, u64, u64)]) -> Bench {
         let mut state = State::fresh(length as u64);
-        for &(memory, device, size, rights) in mappings {
-            state.mappings.push(Mapping {
+        for (i, &(memory, device, size, rights)) in mappings.iter().enumerate() {
+            state.records[i] = Mapping {
                 memory: MemoryAddress(memory),
                 device: DeviceAddress(device),
                 size,
                 rights,
-            });
+            };
         }
+        state.count = mappings.len() as u64;
         assert!(state.sound());
         Bench {
             state,

@@ -378,7 +378,7 @@ mod tests {
     /// Rule 5.7: 0x100 may be there, flagged optional, with its one value, once.
     #[test]
     fn the_second_card_has_two_words_of_features() {
-        let mut state = State::fresh_card(2, 0);
+        let mut state = State::fresh_card(2, 0, Vec::new());
         let mut buffer = [0; 445];
         assert_eq!(save_parts(&state, &mut buffer), Ok(49));
         assert_eq!(
@@ -387,7 +387,7 @@ mod tests {
         );
         let saved = buffer[..49].to_vec();
         assert_eq!(load_parts(&mut state, &saved), Ok(0));
-        assert_eq!(state, State::fresh_card(2, 0));
+        assert_eq!(state, State::fresh_card(2, 0, Vec::new()));
         let mut first = State::fresh(0);
         assert_eq!(load_parts(&mut first, &saved), refused(Refusal::Value, 0));
         let mut features = [0; 16];

@@ -1,9 +1,7 @@
 //! The requests on the container and on the card.
 
 use crate::answer::{refuse_if, Answer, Refusal};
-use crate::bench::{
-    DeviceAddress, DeviceRange, Mapping, MemoryAddress, State, DEVICE_LIMIT, MAPPING_LIMIT, PAGE,
-};
+use crate::bench::{DeviceAddress, DeviceRange, Mapping, MemoryAddress, State, DEVICE_LIMIT, PAGE};
 use crate::bytes::{number_at, put_number};
 use crate::registers;
 
@@ -114,8 +112,7 @@ fn map(state: &mut State, buffer: &[u8]) -> Answer<u64> {
         size: number_at(buffer, 24, 8),
     };
     check_map(state, &new)?;
-    let place = count_below(&state.mappings, new.device);
-    state.mappings.insert(place, new);
+    insert(state, new);
     Ok(0)
 }
 
@@ -131,10 +128,20 @@ fn check_map(state: &State, new: &Mapping) -> Answer<()> {
         Refusal::Range,
     )?;
     refuse_if(
-        state.mappings.iter().any(|m| m.shares_with(new.range())),
+        state.mappings().iter().any(|m| m.shares_with(new.range())),
         Refusal::Overlap,
     )?;
-    refuse_if(state.mappings.len() == MAPPING_LIMIT, Refusal::NoRoom)
+    refuse_if(state.count == state.records.len() as u64, Refusal::NoRoom)
+}
+
+/// Puts a mapping at its place: each record from there on moves to where the next one stood (rule 1.17).
+fn insert(state: &mut State, new: Mapping) {
+    let place = count_below(state.mappings(), new.device);
+    for i in (place..state.mappings().len()).rev() {
+        state.records[i + 1] = state.records[i];
+    }
+    state.records[place] = new;
+    state.count += 1;
 }
 
 /// How many mappings stand before a device address.
@@ -156,13 +163,28 @@ fn unmap(state: &mut State, buffer: &mut [u8]) -> Answer<u64> {
         Refusal::Unaligned,
     )?;
     refuse_if(range.end > DEVICE_LIMIT, Refusal::Range)?;
-    refuse_if(state.mappings.iter().any(|m| cuts(range, m)), Refusal::Cuts)?;
+    refuse_if(
+        state.mappings().iter().any(|m| cuts(range, m)),
+        Refusal::Cuts,
+    )?;
     // The mappings inside lie apart below 2^48, so the sum of their sizes is at most 2^48.
-    let inside = state.mappings.iter().filter(|m| m.lies_inside(range));
+    let inside = state.mappings().iter().filter(|m| m.lies_inside(range));
     let removed: u64 = inside.map(|m| m.size).sum();
-    state.mappings.retain(|m| !m.lies_inside(range));
+    remove_inside(state, range);
     put_number(buffer, 16, 8, removed);
     Ok(0)
+}
+
+/// The mappings that stay move down, in order; records from the new count on keep what they held (rule 1.17).
+fn remove_inside(state: &mut State, range: DeviceRange) {
+    let mut kept = 0;
+    for i in 0..state.mappings().len() {
+        if !state.records[i].lies_inside(range) {
+            state.records[kept] = state.records[i];
+            kept += 1;
+        }
+    }
+    state.count = kept as u64;
 }
 
 /// Whether the range holds some but not all of a mapping.
@@ -265,7 +287,7 @@ mod tests {
     }
 
     fn held(state: &State) -> Vec<u64> {
-        state.mappings.iter().map(|m| m.device.0).collect()
+        state.mappings().iter().map(|m| m.device.0).collect()
     }
 
     /// Rule 3.1: VFIO gives one number to several requests.
@@ -457,8 +479,8 @@ mod tests {
         assert_eq!(map(&mut state, 3, top, 0, 4_096), refused(Refusal::Range));
         assert_eq!(map(&mut state, 3, 8_192, 0, 4_096), refused(Refusal::Range));
         assert_eq!(map(&mut state, 3, 4_096, last, 4_096), Ok(0));
-        assert_eq!(state.mappings[0].memory, MemoryAddress(4_096));
-        assert_eq!(state.mappings[0].device, DeviceAddress(last));
+        assert_eq!(state.mappings()[0].memory, MemoryAddress(4_096));
+        assert_eq!(state.mappings()[0].device, DeviceAddress(last));
     }
 
     /// Rule 1.3: the last broken page of memory cannot be mapped.
@@ -511,6 +533,66 @@ mod tests {
             map(&mut state, 1, 0, 8_192, 4_096),
             refused(Refusal::NoRoom)
         );
+    }
+
+    /// Rule 2.8: as many as there are records, and none where there are none.
+    #[test]
+    fn a_table_holds_as_many_mappings_as_records_are_lent() {
+        for length in [0, 1, 63, 65, 4_095, 4_096] {
+            let mut state = pages(1);
+            state.records = vec![Mapping::filled(GARBAGE); length as usize];
+            for i in (0..length).rev() {
+                assert_eq!(map(&mut state, 1, 0, i * 4_096, 4_096), Ok(0));
+            }
+            assert_eq!(
+                map(&mut state, 1, 0, length * 4_096, 4_096),
+                refused(Refusal::NoRoom)
+            );
+            let all: Vec<u64> = (0..length).map(|i| i * 4_096).collect();
+            assert_eq!(held(&state), all);
+        }
+    }
+
+    /// Rules 1.17 and 7.24: of a b c d, without b and c, a d c d is left; nothing behind is touched.
+    #[test]
+    fn records_past_the_count_keep_what_they_held() {
+        let mut state = pages(1);
+        state.records = vec![Mapping::filled(GARBAGE); 6];
+        for page in [3, 1, 4, 2] {
+            assert_eq!(map(&mut state, 1, 0, page * 4_096, 4_096), Ok(0));
+        }
+        let devices = |state: &State| -> Vec<u64> {
+            state.records.iter().map(|m| m.device.0 / 4_096).collect()
+        };
+        let stale = Mapping::filled(GARBAGE).device.0 / 4_096;
+        assert_eq!(devices(&state), [1, 2, 3, 4, stale, stale]);
+        assert_eq!(unmap(&mut state, 0, 2 * 4_096, 2 * 4_096), Ok(8_192));
+        assert_eq!(devices(&state), [1, 4, 3, 4, stale, stale]);
+        assert_eq!(state.count, 2);
+        assert_eq!(map(&mut state, 1, 0, 0, 4_096), Ok(0));
+        assert_eq!(devices(&state), [0, 1, 4, 4, stale, stale]);
+    }
+
+    /// Rule 1.18: another slice that begins with the records in use.
+    #[test]
+    fn the_records_may_be_others_at_each_call() {
+        let mut state = pages(1);
+        state.records.truncate(2);
+        assert_eq!(map(&mut state, 1, 0, 0, 4_096), Ok(0));
+        assert_eq!(map(&mut state, 1, 0, 4_096, 4_096), Ok(0));
+        assert_eq!(
+            map(&mut state, 1, 0, 8_192, 4_096),
+            refused(Refusal::NoRoom)
+        );
+        state.records.push(Mapping::filled(GARBAGE));
+        assert_eq!(map(&mut state, 1, 0, 8_192, 4_096), Ok(0));
+        let last = state.records.pop().unwrap();
+        assert_eq!(
+            map(&mut state, 1, 0, 12_288, 4_096),
+            refused(Refusal::BadBench)
+        );
+        state.records.push(last);
+        assert_eq!(unmap(&mut state, 0, 0, 12_288), Ok(12_288));
     }
 
     #[test]

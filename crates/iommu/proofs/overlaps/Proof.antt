@@ -1,70 +1,19 @@
--- `iommu::overlaps` meets its contract: a pass for some mapping of which the test holds.
-use Prim.Native.Nat.{_-_}
-use native.Mathlib.Omega.{arith}
-use mathlib.Core.Path.{_≡_}
-use lib.ListN.{length}
-use Rattle.iommu.specs.Table.{overlaps, touches}
-use Rattle.iommu.proofs.Passes.{Scanned, pass-start, scan-found, scan-on, scan-none, pass-facts}
-use Rattle.answer.proofs.Arrays.{length-mapped}
+-- `iommu::overlaps` meets its contract.
+use mathlib.Core.Path.{refl}
 use borrow.Author.Needs.{needs}
+use borrow.Author.Tests.{lt-ltb, le-ltb}
+use Rattle.answer.proofs.Tests.{and-first, and-second}
 use Rattle.iommu.proofs.overlaps.Statement.{statement}
 use Rattle.iommu.proofs.overlaps.Tie as tie
 
-abbrev Inv-loop : tie.InvT-loop
-Inv-loop d n table count i₀ i = Scanned (touches d n) table i
+add-result : tie.Need-add-result
+add-result c = search needs
 
-abbrev μ-loop : tie.MeasureT-loop
-μ-loop d n table count i₀ i = count - i
+returns : tie.Need-returns
+returns c = and-second (lt-ltb _ _ (c .before .before .if1 .taken)) refl
 
-loop-holds : tie.Need-loop-holds Inv-loop μ-loop
-loop-holds c =
-    let long : length (c .args .t1 .entries) ≡ 64 = search (needs, length-mapped) in
-    pass-start _ (c .args .t1) (omega arith)
-
-mul-m : tie.Need-mul-m Inv-loop μ-loop
-mul-m c = search needs
-
-element-copy-out-m : tie.Need-element-copy-out-m Inv-loop μ-loop
-element-copy-out-m c = search needs
-
-touches-requires : tie.Need-touches-requires Inv-loop μ-loop
-touches-requires c κs =
-    let l = c .before .before in
-    record { mapping = pass-facts (l .loop .inv) (c .before .loop-test .taken) (l .before .pre .0) .below; range = l .before .pre .1 }
-
-returns : tie.Need-returns Inv-loop μ-loop
-unfolding overlaps
-returns c =
-    let d = c .before .before .before in
-    scan-found _ (d .before .loop .inv) (d .loop-test .taken) (c .before .touches .ensures) (c .if1 .taken)
-
-add-i : tie.Need-add-i Inv-loop μ-loop
-add-i c = search needs
-
-loop-less : tie.Need-loop-less Inv-loop μ-loop
-loop-less c = search needs
-
-loop-again : tie.Need-loop-again Inv-loop μ-loop
-loop-again c =
-    let d = c .before .before .before in
-    scan-on _ (d .before .loop .inv) (d .loop-test .taken) (c .before .touches .ensures) (c .if1 .left)
-
-returns-2 : tie.Need-returns-2 Inv-loop μ-loop
-unfolding overlaps
-returns-2 c = scan-none _ (c .before .loop .inv) (c .loop-test .left)
+returns-2 : tie.Need-returns-2
+returns-2 c = and-first _ (le-ltb _ _ (c .if1 .left)) refl
 
 pub overlaps-spec : {M : Type 1} → statement M
-overlaps-spec =
-    tie.close
-    (tie.spec
-    Inv-loop
-    μ-loop
-    loop-holds
-    mul-m
-    element-copy-out-m
-    touches-requires
-    returns
-    add-i
-    loop-less
-    loop-again
-    returns-2)
+overlaps-spec = tie.close (tie.spec add-result returns returns-2)

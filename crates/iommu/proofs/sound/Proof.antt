@@ -1,105 +1,132 @@
--- `iommu::sound` meets its contract: the mappings still to come decide.
-use Prim.Native.Nat.{_-_}
+-- `iommu::sound` meets its contract: a derivation by hand.
+use Prim.Native.Nat.{ℕ, _+_, _-_, _≤_, _<_}
 use native.Mathlib.Omega.{arith}
-use mathlib.Core.Path.{_≡_, sym}
+use mathlib.Core.Path.{_≡_, refl, sym, _∙_}
+use mathlib.Core.Bool.{Bool, true, false, not}
+use mathlib.Core.List.{List, [], _∷_}
+use lib.Dec.{lit<, leb}
 use lib.ListN.{length}
-use borrow.Author.Tests.{le-leb, lt-leb}
+use borrow.Author.Tests.{leb-true, not-true, not-false}
+use Rattle.walks.proofs.Walk.{URA, Ty, valueLocal, w64, tyInt, Heap, Tables, Atoms, Given, givenOf, tablesOf, Over, World, sInt, Derived, Knows, closes-free, _⨟_, _⨾_, done, gone, empty, number, used, derives, tyBool, add, lt, unsigned, field, ltb-true, ltb-false, le-leb, lt-leb, vAt, knows, spares-sslice, reads-sslice, reads-sslice-len, lenV, sBool, valS, oAt, oInt, oBig, oBool, oFld, joined, while, test, again, leave, last, calc, calls, flag, grows, falls, row, spelled, sharedAt, yields, room}
+use Rattle.walks.proofs.Rules as rules
 use Rattle.answer.specs.Tests.{_and_}
-use Rattle.answer.proofs.Tests.{and-false, and-second, found-false, found-true}
-use Rattle.iommu.specs.Table.{soundMappingsFrom, soundTable, inUse}
-use Rattle.iommu.proofs.Soundness.{mapping-facts}
-use Rattle.iommu.proofs.Passes.{Left, pass-start, pass-on, pass-stop, pass-end}
-use Rattle.answer.proofs.Arrays.{length-mapped}
-use borrow.Author.Needs.{needs}
-use Rattle.iommu.proofs.sound.Statement.{statement}
-use Rattle.iommu.proofs.sound.Tie as tie
+use Rattle.answer.proofs.Tests.{and-true, and-false, and-second}
+use Rattle.address.specs.Address.{deviceLimit}
+use Rattle.iommu.specs.declared.Mapping.{Mapping}
+use Rattle.iommu.specs.Table.{Table, tableOf, capacity, inUse, soundTable, nextLow}
+use Rattle.iommu.proofs.Passes.{entry, entry-in-use, entry-in-use-is, Left, pass-on, pass-end}
+use Rattle.iommu.proofs.Lows.{soundLow, low-start, low-on, low-end}
+use Rattle.iommu.proofs.Contracts as contracts
+use Rattle.iommu.proofs.Records.{mapping}
+use Rattle.iommu.proofs.cannot_hold.Symbol as cannot-hold-def
+use Rattle.iommu.proofs.cannot_hold.Reads as cannot-hold-reads
+use Rattle.iommu.proofs.cannot_hold.Met as cannot-hold-thm
+use Rattle.iommu.proofs.get.Symbol as get-def
+use Rattle.iommu.proofs.get.Met as get-thm
+use Rattle.iommu.proofs.next_low.Symbol as next-low-def
+use Rattle.iommu.proofs.next_low.Reads as next-low-reads
+use Rattle.iommu.proofs.next_low.Met as next-low-thm
+use Rattle.iommu.proofs.sound.Key.{name}
+use Rattle.iommu.proofs.sound.Statement as stated
+use Rattle.iommu.proofs.sound.Code as code
 
-abbrev Inv-loop : tie.InvT-loop
-Inv-loop size count table low₀ i₀ low i = Left (soundTable size (inUse table)) (soundMappingsFrom size low) table i
+-- at index i
+abbrev Passed : ℕ → Table → ℕ → ℕ → Type 0
+Passed size t low i = Left (soundTable size (inUse t)) (soundLow size low) t i
 
-abbrev μ-loop : tie.MeasureT-loop
-μ-loop size count table low₀ i₀ low i = count - i
+module _ (size : ℕ) (t : Table) where
+  -- what is asked of the lent records and the count, and what then is left to ask
+  abbrev wanted : Bool
+  wanted = leb (length (t .entries)) capacity and leb (t .count) (length (t .entries)) and soundTable size (inUse t)
 
--- a table that holds nothing
-returns : tie.Need-returns Inv-loop μ-loop
-unfolding soundTable soundMappingsFrom
-returns c =
-    let none = c .if1 .taken in
-    let long : length (c .before .args .table .entries) ≡ 64 = search (needs, length-mapped) in
-    and-second (le-leb (c .before .args .table .count) 64 (omega arith)) (pass-end (pass-start (soundMappingsFrom (c .before .args .size) 0) (c .before .args .table) (omega arith)) (omega arith))
+  module _ (r : Bool) (e : r ≡ not (leb (length (t .entries)) capacity and leb (t .count) (length (t .entries)))) where
+    refused : r ≡ true → false ≡ wanted
+    refused h = sym (and-false _ _ (not-true _ (sym e ∙ h)))
 
-returns-2 : tie.Need-returns-2 Inv-loop μ-loop
-returns-2 c = sym (and-false _ _ (lt-leb _ _ (c .if2 .taken)))
+    held : r ≡ false → (leb (length (t .entries)) capacity and leb (t .count) (length (t .entries))) ≡ true
+    held h = not-false _ (sym e ∙ h)
 
-loop-holds : tie.Need-loop-holds Inv-loop μ-loop
-unfolding soundTable
-loop-holds c =
-    let long : length (c .before .before .args .table .entries) ≡ 64 = search (needs, length-mapped) in
-    pass-start _ (c .before .before .args .table) (omega arith)
+    fits : r ≡ false → t .count ≤ length (t .entries)
+    fits h = leb-true _ _ (and-true _ _ (held h) .1)
 
-mul-m : tie.Need-mul-m Inv-loop μ-loop
-mul-m c = search needs
+    start : r ≡ false → Passed size t 0 0
+    start h = record { few = omega arith; fits = fits h; is = low-start size (inUse t) }
 
-element-copy-out-m : tie.Need-element-copy-out-m Inv-loop μ-loop
-element-copy-out-m c = search needs
+    ends : r ≡ false → (low i : ℕ) → Passed size t low i → low ≤ deviceLimit → t .count ≤ i → true ≡ wanted
+    ends h low i p l k = and-second (held h) (sym (low-end size low ∙ le-leb low deviceLimit l) ∙ pass-end p k)
 
-returns-3 : tie.Need-returns-3 Inv-loop μ-loop
-unfolding soundMappingsFrom
-returns-3 c =
-    let d = c .before .before .before in
-    and-second (le-leb _ _ (d .before .before .if2 .left))
-    (pass-stop (d .before .loop .inv) _ (d .loop-test .taken) (λ ms. and-false _ _ (and-false _ _ (lt-leb _ _ (c .if3 .taken)))))
+    stops : r ≡ false → (low i : ℕ) → Passed size t low i → deviceLimit < low → false ≡ wanted
+    unfolding soundLow
+    stops h low i p l = and-second (held h) (sym (p .is ∙ and-false _ _ (lt-leb low deviceLimit l)))
 
-sound-mapping-requires : tie.Need-sound-mapping-requires Inv-loop μ-loop
-sound-mapping-requires c κs = search needs
+  on : (low i : ℕ) → Passed size t low i → i < t .count → (x : Mapping) → x ≡ entry-in-use t i → (n : ℕ) → n ≡ nextLow size low x → Passed size t n (i + 1)
+  on low i p b x e n h = rw (h, e ∙ entry-in-use-is t i b) (pass-on p (soundLow size (nextLow size low (entry t i))) b (low-on size low (entry t i)))
 
-returns-4 : tie.Need-returns-4 Inv-loop μ-loop
-unfolding soundMappingsFrom _and_
-returns-4 c =
-    let e = c .before .before in
-    let d = e .before .before .before in
-    and-second (le-leb _ _ (d .before .before .if2 .left))
-    (pass-stop (d .before .loop .inv) _ (d .loop-test .taken) (λ ms. rw (le-leb _ _ (e .if3 .left), found-false (c .before .sound-mapping .ensures) (c .if4 .taken))))
+-- the other locals: low, i, whether there is room, how many are lent, the tests of the loop, the record
+abbrev xs : List Ty
+xs = tyInt w64 ∷ tyInt w64 ∷ tyBool ∷ tyInt w64 ∷ tyBool ∷ spelled mapping ∷ []
 
-add-low : tie.Need-add-low Inv-loop μ-loop
-add-low c =
-    let f = mapping-facts _ _ (found-true (c .before .before .sound-mapping .ensures) (c .before .if4 .left)) in
-    omega arith
+module _ {M : Type 1} (𝓤 : URA M) (H : Heap 𝓤) (A : Atoms 𝓤) (W : Given 𝓤 H A) (𝓣 : Tables 𝓤 H)
+    (cannot-hold : Knows 𝓤 H A W 𝓣 contracts.cannot-hold cannot-hold-def.name) (get : Knows 𝓤 H A W 𝓣 contracts.get get-def.name) (next-low : Knows 𝓤 H A W 𝓣 contracts.next-low next-low-def.name) where
+  derived : Derived 𝓤 H A W 𝓣 contracts.sound code.function
+  derived =
+      derives 𝓤 H A W 𝓣 contracts.sound xs (valueLocal ∷ valueLocal ∷ valueLocal ∷ valueLocal ∷ valueLocal ∷ valueLocal ∷ valueLocal ∷ valueLocal ∷ valueLocal ∷ valueLocal ∷ []) (code.function .body) _ (λ κs qs bs.
+      rules.set 7 (sInt w64) (oFld 1 (field 1 ∷ []) (tyInt w64) 8 lenV) (reads-sslice-len 𝓤 H A W (row mapping) (sharedAt mapping 0) 0 8 refl, refl) (empty W (tyInt w64)) refl (λ u. refl) (λ u. tt)
+      ⨟ calls contracts.cannot-hold cannot-hold (vAt 7 (λ x. x), (vAt 2 (λ x. x), tt)) 6 [] ((number W w64, refl), ((number W w64, refl), tt)) (empty W tyBool) tt refl
+      ⨟ gone 7 (tyInt w64) (used W (sInt w64)) ⨾ joined (test 6 (λ x. x) (flag W) refl
+      (gone 6 tyBool (used W sBool) ⨾ rules.set 0 sBool (oBool false) tt (empty W tyBool) refl (λ u. refl) (λ u. tt) ⨟ gone 2 (tyInt w64) (used W (sInt w64)) ⨾ gone 3 (tyInt w64) (used W (sInt w64)) ⨾ done)
+      (gone 6 tyBool (used W sBool) ⨾ again))
+      (rules.set 4 (sInt w64) (oInt w64 0) tt (empty W (tyInt w64)) refl (λ u. refl) (λ u. tt)
+      ⨟ rules.set 5 (sInt w64) (oInt w64 0) tt (empty W (tyInt w64)) refl (λ u. refl) (λ u. tt)
+      ⨟ joined (while {Vs = ℕ × ℕ} (λ vs u. (u .0, (u .1 .0, (u .1 .1 .0, (u .1 .1 .1 .0, (vs .0, (vs .1, u .1 .1 .1 .1 .1 .1)))))))
+      (λ u vs. Passed (u .1 .1 .1 .0) (tableOf (u .1 .0 .now) (u .1 .1 .0)) (vs .0) (vs .1) × (vs .0 ≤ deviceLimit)) (λ u vs. u .1 .1 .0 - vs .1)
+      (calc 8 sBool (lt unsigned) (oAt 5 (tyInt w64) (valS (sInt w64))) (oAt 2 (tyInt w64) (valS (sInt w64))) (number W w64, refl) (number W w64, refl) (empty W tyBool) refl (λ u. refl) (λ u. tt)
+      ⨟ joined (test 8 (λ x. x) (flag W) refl (gone 8 tyBool (used W sBool) ⨾ again) (gone 8 tyBool (used W sBool) ⨾ leave))
+      (calls contracts.get get (record { pos = 1; ty = sharedAt mapping 0; ref = λ x. x }, (vAt 2 (λ x. x), (vAt 5 (λ x. x), tt))) 9 (0 ∷ []) (spares-sslice 𝓤 H A W (row mapping) (sharedAt mapping 0) 0, reads-sslice 𝓤 H A W (row mapping) (sharedAt mapping 0) 0, refl, ((number W w64, refl), ((number W w64, refl), tt))) (empty W (spelled mapping)) (tt, tt) refl
+      ⨟ calls contracts.next-low next-low (vAt 4 (λ x. x), (record { pos = 9; st = []; d = 0; at = λ x. x }, (vAt 3 (λ x. x), tt))) 4 [] ((number W w64, refl), ((yields mapping W, refl), ((number W w64, refl), tt))) (used W (sInt w64)) tt refl
+      ⨟ gone 9 (spelled mapping) (room mapping W)
+      ⨾ calc 8 sBool (lt unsigned) (oBig w64 281474976710656) (oAt 4 (tyInt w64) (valS (sInt w64))) (record { lower = record { fits = lit< tt } }) (number W w64, refl) (empty W tyBool) refl (λ u. refl) (λ u. tt)
+      ⨟ joined (test 8 (λ x. x) (flag W) refl
+      (gone 8 tyBool (used W sBool) ⨾ rules.set 0 sBool (oBool false) tt (empty W tyBool) refl (λ u. refl) (λ u. tt) ⨟ gone 2 (tyInt w64) (used W (sInt w64)) ⨾ gone 3 (tyInt w64) (used W (sInt w64)) ⨾ gone 4 (tyInt w64) (used W (sInt w64)) ⨾ gone 5 (tyInt w64) (used W (sInt w64)) ⨾ done)
+      (gone 8 tyBool (used W sBool) ⨾ again))
+      (last (calc 5 (sInt w64) (add unsigned) (oAt 5 (tyInt w64) (valS (sInt w64))) (oInt w64 1) (number W w64, refl) tt (used W (sInt w64)) refl (λ u. refl) (λ u. tt))))))
+      (rules.set 0 sBool (oBool true) tt (empty W tyBool) refl (λ u. refl) (λ u. tt) ⨟ gone 2 (tyInt w64) (used W (sInt w64)) ⨾ gone 3 (tyInt w64) (used W (sInt w64)) ⨾ gone 4 (tyInt w64) (used W (sInt w64)) ⨾ gone 5 (tyInt w64) (used W (sInt w64)) ⨾ done)))
+      (λ κs qs a good _ bs.
+      let t : Table = tableOf (a .0 .now) (a .1 .0) in (
+        (λ _. tt),
+        λ c. (
+          (λ over. ((refl, (tt, (tt, tt))), refused (a .1 .1 .0) t _ (c .5) over)),
+          λ held-all. (
+            ((0, 0), refl, (start (a .1 .1 .0) t _ (c .5) held-all, omega arith)),
+            λ vs p. (
+              tt,
+              (
+                (λ in-loop. let b = ltb-true _ _ in-loop in (
+                  (λ _. fits (a .1 .1 .0) t _ (c .5) held-all),
+                  λ g. (
+                    (λ _. tt),
+                    λ h. let q = on _ t _ _ (p .0) b _ (g .5) _ (h .5) in (
+                      tt,
+                      (
+                        (λ above. ((refl, (tt, (tt, tt))), stops _ t _ (c .5) held-all _ _ q (ltb-true _ _ above))),
+                        λ below. (record { fits = grows (vs .1) (a .1 .0) b (good .1 .0 .1) }, (_, falls (vs .1) (a .1 .0) b, ((h .1, vs .1 + 1), refl, (q, ltb-false _ _ below), refl))),
+                      ),
+                    ),
+                  ),
+                )),
+                λ at-end. ((refl, (tt, (tt, tt))), ends _ t _ (c .5) held-all _ _ (p .0) (p .1) (ltb-false _ _ at-end)),
+              ),
+            ),
+          ),
+        ),
+      ))
 
-add-i : tie.Need-add-i Inv-loop μ-loop
-add-i c = search needs
-
-loop-less : tie.Need-loop-less Inv-loop μ-loop
-loop-less c = search needs
-
-loop-again : tie.Need-loop-again Inv-loop μ-loop
-unfolding soundMappingsFrom _and_
-loop-again c =
-    let e = c .before .before .before in
-    let d = e .before .before .before in
-    pass-on (d .before .loop .inv) _ (d .loop-test .taken)
-    (λ ms. rw (le-leb _ _ (e .if3 .left), found-true (c .before .before .sound-mapping .ensures) (c .before .if4 .left)))
-
-returns-5 : tie.Need-returns-5 Inv-loop μ-loop
-unfolding soundMappingsFrom
-returns-5 c = and-second (le-leb _ _ (c .before .before .if2 .left)) (pass-end (c .before .loop .inv) (c .loop-test .left))
-
-pub sound-spec : {M : Type 1} → statement M
-sound-spec =
-    tie.close
-    (tie.spec
-    Inv-loop
-    μ-loop
-    returns
-    returns-2
-    loop-holds
-    mul-m
-    element-copy-out-m
-    returns-3
-    sound-mapping-requires
-    returns-4
-    add-low
-    add-i
-    loop-less
-    loop-again
-    returns-5)
+pub sound-spec : {M : Type 1} → stated.statement M
+unfolding code.routine tablesOf
+sound-spec {M} 𝓤 H 𝓜 𝓖 𝓡 =
+    let w : World = record { M = M; 𝓤 = 𝓤; H = H; 𝓜 = 𝓜; 𝓖 = 𝓖; 𝓡 = 𝓡 } in
+    closes-free contracts.sound w code.env name code.function (code.unfolded 𝓤 H 𝓜 𝓡)
+    (derived 𝓤 H (𝓖 .A) (givenOf 𝓤 H 𝓜 𝓖) (Over 𝓤 H 𝓜 𝓖 𝓡 code.env)
+    (cannot-hold-reads.known w code.env cannot-hold-def.name cannot-hold-def.routine code.calls-iommu·cannot-hold (cannot-hold-thm.met 𝓤 H 𝓜 𝓖 𝓡))
+    (knows contracts.get w code.env get-def.name get-def.routine code.calls-iommu·get (get-thm.met 𝓤 H 𝓜 𝓖 𝓡))
+    (next-low-reads.known w code.env next-low-def.name next-low-def.routine code.calls-iommu·next-low (next-low-thm.met 𝓤 H 𝓜 𝓖 𝓡)))

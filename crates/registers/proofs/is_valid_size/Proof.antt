@@ -1,17 +1,18 @@
--- `registers::is_valid_size` meets its contract.
-use mathlib.Core.Path.{_∙_}
-use Rattle.registers.proofs.Values.{size-none, size-some}
+-- `registers::is_valid_size` meets its contract: it has the definition's own shape.
+use lib.Dec.{eqb}
+use Rattle.answer.specs.Tests.{_and_}
+use Rattle.registers.specs.Values.{powerOfTwo}
+use Rattle.registers.proofs.Values.{both-and, either-or}
 use Rattle.registers.proofs.is_valid_size.Statement.{statement}
 use Rattle.registers.proofs.is_valid_size.Tie as tie
-
-returns : tie.Need-returns
-returns c = let a = c .before .args in size-none (a .size) (a .enabled) (c .if1 .taken)
 
 is-power-of-two-requires : tie.Need-is-power-of-two-requires
 is-power-of-two-requires c κs = tt
 
-returns-2 : tie.Need-returns-2
-returns-2 c = let a = c .before .before .args in c .is-power-of-two .ensures ∙ size-some (a .size) (a .enabled) (c .before .if1 .left)
+returns : tie.Need-returns
+returns c =
+    let a = c .before .args in
+    simp (c .is-power-of-two .ensures, both-and) (either-or (powerOfTwo 8 (a .size)) (eqb (a .size) 0 and eqb (a .enabled) 0))
 
 pub is-valid-size-spec : {M : Type 1} → statement M
-is-valid-size-spec = tie.close (tie.spec returns is-power-of-two-requires returns-2)
+is-valid-size-spec = tie.close (tie.spec is-power-of-two-requires returns)

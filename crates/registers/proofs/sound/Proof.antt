@@ -1,142 +1,164 @@
--- `registers::sound` meets its contract: the slots before `i` are sound.
-use Prim.Native.Nat.{_+_, _-_, _≤_}
+-- `registers::sound` meets its contract: what it asks of status and of nine registers is what the definition asks of all.
+use Prim.Native.Nat.{ℕ, _+_, _<_}
 use native.Mathlib.Omega.{arith}
-use mathlib.Core.Path.{_≡_, sym, _∙_, ap}
-use mathlib.Core.Bool.{Bool}
-use lib.ListN.{drop, length}
-use borrow.Author.Tests.{eq-eqb, ne-eqb, not-true, not-false}
-use Rattle.answer.specs.Tests.{_and_}
-use Rattle.registers.specs.File.{soundFile, soundValuesFrom, fileFrom, fileOf}
-use Rattle.registers.proofs.File.{slot-whole, sound-status, sound-rest, sound-more, sound-end}
-use Rattle.answer.proofs.Arrays.{length-mapped}
+use mathlib.Core.Path.{_≡_}
+use mathlib.Core.Bool.{Bool, true, _&&_}
+use lib.ListN.{length, getD}
+use Rattle.answer.specs.Tests.{flagged}
+use Rattle.registers.specs.Cards.{isCard}
+use Rattle.registers.specs.Rows.{rowCount}
+use Rattle.registers.specs.File.{soundFile, fileOf}
+use Rattle.answer.proofs.Tests.{found-false, found-true}
+use Rattle.registers.proofs.Cards.{card-small}
+use Rattle.registers.proofs.File.{absent, slots-whole, slot-whole, soundSlot, sound-free, sound-tested}
 use borrow.Author.Needs.{needs}
 use Rattle.registers.proofs.sound.Statement.{statement}
 use Rattle.registers.proofs.sound.Tie as tie
 
-abbrev Inv-loop : tie.InvT-loop
-Inv-loop words slots i₀ i = (i ≤ 14) × (soundFile words (fileFrom words 1 slots) ≡ soundValuesFrom words (i + 1) (fileFrom words (i + 1) (drop i slots)))
-
-abbrev μ-loop : tie.MeasureT-loop
-μ-loop words slots i₀ i = 14 - i
-
-sub-status : tie.Need-sub-status Inv-loop μ-loop
+sub-status : tie.Need-sub-status
 sub-status c = search needs
 
-mul-status : tie.Need-mul-status Inv-loop μ-loop
+mul-status : tie.Need-mul-status
 mul-status c = search needs
 
-array-copy-out-status : tie.Need-array-copy-out-status Inv-loop μ-loop
+array-copy-out-status : tie.Need-array-copy-out-status
 array-copy-out-status c = search needs
 
-returns : tie.Need-returns Inv-loop μ-loop
-returns c = sound-status _ _ (ne-eqb _ _ (c .if1 .taken))
-
-array-copy-out-features : tie.Need-array-copy-out-features Inv-loop μ-loop
+array-copy-out-features : tie.Need-array-copy-out-features
 array-copy-out-features c = search needs
 
-is-sound-requires : tie.Need-is-sound-requires Inv-loop μ-loop
-is-sound-requires c κs =
-    let s = c .before .before .before .before .before in
-    (s .pre, omega arith, omega arith, slot-whole (s .args .registers) _ (s .good .1 .0) 0 (omega arith))
+array-copy-out-queue0 : tie.Need-array-copy-out-queue0
+array-copy-out-queue0 c = search needs
 
--- all are sound if driver features are and those behind them are
-first : (c : tie.After-is-sound Inv-loop μ-loop)
-    → let s = c .before .before .before .before .before .before in
-    let w = s .args .words in
-    let slots = s .args .registers .slots in
-    soundFile w (fileFrom w 1 slots) ≡ (c .is-sound .result and soundValuesFrom w 2 (fileFrom w 2 (drop 1 slots)))
-unfolding fileOf
-first c =
-    let s = c .before .before .before .before .before .before in
-    let w = s .args .words in
-    let slots = s .args .registers .slots in
-    let long : length slots ≡ 14 = search (needs, length-mapped) in
-    sound-rest w (s .args .registers) (eq-eqb _ _ (c .before .before .if1 .left)) ∙ sound-more w slots 0 (omega arith)
-    ∙ ap (λ (t : Bool). t and soundValuesFrom w 2 (fileFrom w 2 (drop 1 slots))) (sym (c .is-sound .ensures))
+array-copy-out-queue1 : tie.Need-array-copy-out-queue1
+array-copy-out-queue1 c = search needs
 
-returns-2 : tie.Need-returns-2 Inv-loop μ-loop
-unfolding _and_ fileOf
-returns-2 c = sym (first (c .before) ∙ rw (not-true (c .before .is-sound .result) (c .if2 .taken)))
+array-copy-out-queue2 : tie.Need-array-copy-out-queue2
+array-copy-out-queue2 c = search needs
 
-loop-holds : tie.Need-loop-holds Inv-loop μ-loop
-unfolding _and_
-loop-holds c = (omega arith, first (c .before) ∙ rw (not-false (c .before .is-sound .result) (c .if2 .left)))
+array-copy-out-queue3 : tie.Need-array-copy-out-queue3
+array-copy-out-queue3 c = search needs
 
-mul-r : tie.Need-mul-r Inv-loop μ-loop
-mul-r c = search needs
+array-copy-out-notify0 : tie.Need-array-copy-out-notify0
+array-copy-out-notify0 c = search needs
 
-array-copy-out-r : tie.Need-array-copy-out-r Inv-loop μ-loop
-array-copy-out-r c = search needs
+array-copy-out-notify1 : tie.Need-array-copy-out-notify1
+array-copy-out-notify1 c = search needs
 
-add-is-sound : tie.Need-add-is-sound Inv-loop μ-loop
-add-is-sound c = search needs
+array-copy-out-notify2 : tie.Need-array-copy-out-notify2
+array-copy-out-notify2 c = search needs
+
+array-copy-out-notify3 : tie.Need-array-copy-out-notify3
+array-copy-out-notify3 c = search needs
 
 -- where the call began
-abbrev start : (c : tie.At-loop Inv-loop μ-loop) → tie.Start Inv-loop μ-loop
-start c = c .before .before .before .before .before .before .before .before
+abbrev start : tie.After-struct-known → tie.Start
+start c = c .before .before .before .before .before .before .before .before .before .before .before .before
 
-is-sound-requires-2 : tie.Need-is-sound-requires-2 Inv-loop μ-loop
-is-sound-requires-2 c κs =
-    let l = c .before .before in
-    let s = start l in
-    (s .pre, omega arith, omega arith, slot-whole (s .args .registers) _ (s .good .1 .0) (l .loop .i) (omega arith))
+-- what is asked of a call for a slot
+asked : (s : tie.Start) (k : ℕ) → k < 14
+    → (isCard (s .args .words) ≡ true) × (0 < k + 1) × (k + 1 < rowCount) × (length (getD (s .args .registers .slots) k absent .bytes) ≡ 32)
+asked s k lt = (s .pre, omega arith, omega arith, slot-whole (s .args .registers) _ (s .good .1 .0) k lt)
 
--- and if this one is and those behind it are
-turn : (c : tie.After-is-sound2 Inv-loop μ-loop)
-    → let l = c .before .before .before in
-    let i = l .loop .i in
-    let w = start l .args .words in
-    let slots = start l .args .registers .slots in
-    soundFile w (fileFrom w 1 slots) ≡ (c .is-sound2 .result and soundValuesFrom w (i + 1 + 1) (fileFrom w (i + 1 + 1) (drop (i + 1) slots)))
-turn c =
-    let l = c .before .before .before in
-    let i = l .loop .i in
-    let w = start l .args .words in
-    let slots = start l .args .registers .slots in
-    let long : length slots ≡ 14 = search (needs, length-mapped) in
-    l .loop .inv .1 ∙ sound-more w slots i (omega arith) ∙ ap (λ (t : Bool). t and soundValuesFrom w (i + 1 + 1) (fileFrom w (i + 1 + 1) (drop (i + 1) slots))) (sym (c .is-sound2 .ensures))
+-- whether the register of a slot is sound, and whether status is set
+abbrev slot : tie.Start → ℕ → Bool
+slot s k = soundSlot (s .args .words) (s .args .registers .slots) k
 
-returns-3 : tie.Need-returns-3 Inv-loop μ-loop
-unfolding _and_ fileOf
-returns-3 c = sym (turn (c .before) ∙ rw (not-true (c .before .is-sound2 .result) (c .if3 .taken)))
+abbrev status : tie.Start → Bool
+status s = flagged (getD (s .args .registers .slots) 5 absent .set)
 
-add-i : tie.Need-add-i Inv-loop μ-loop
-add-i c = search needs
+-- the groups that are judged one after the other
+tested : (s : tie.Start) → (status s && slot s 0 && (slot s 6 && slot s 7) && (slot s 8 && slot s 9) && (slot s 10 && slot s 11 && slot s 12 && slot s 13)) ≡ soundFile (s .args .words) (fileOf (s .args .words) (s .args .registers))
+tested s =
+    sound-tested (s .args .words) (s .args .registers) (slots-whole (s .args .registers) _ (s .good .1 .0))
+    (λ i low high. sound-free (s .args .words) (i + 1) (getD (s .args .registers .slots) i absent) (card-small _ (s .pre)) (asked s i (omega arith) .3) (omega arith) (omega arith))
 
-loop-less : tie.Need-loop-less Inv-loop μ-loop
-loop-less c = search needs
+group-1 : (c : tie.After-is-sound) → let s = start (c .before) in (status s && c .is-sound .result) ≡ (status s && slot s 0)
+group-1 c = rw (c .is-sound .ensures)
 
-loop-again : tie.Need-loop-again Inv-loop μ-loop
-unfolding _and_
-loop-again c = (omega arith, turn (c .before) ∙ rw (not-false (c .before .is-sound2 .result) (c .if3 .left)))
+group-2 : (c : tie.After-is-sound3) → let s = start (c .before .before .before .before) in (c .before .is-sound2 .result && c .is-sound3 .result) ≡ (slot s 6 && slot s 7)
+group-2 c = rw (c .before .is-sound2 .ensures, c .is-sound3 .ensures)
 
-returns-4 : tie.Need-returns-4 Inv-loop μ-loop
-unfolding fileOf
+group-3 : (c : tie.After-is-sound5) → let s = start (c .before .before .before .before .before .before .before) in (c .before .is-sound4 .result && c .is-sound5 .result) ≡ (slot s 8 && slot s 9)
+group-3 c = rw (c .before .is-sound4 .ensures, c .is-sound5 .ensures)
+
+first-sound : (c : tie.Else1) → let s = start (c .before .before) in (status s && slot s 0) ≡ true
+first-sound c = found-true (group-1 (c .before)) (c .if1 .left)
+
+second-sound : (c : tie.Else2) → let s = start (c .before .before .before .before .before) in (slot s 6 && slot s 7) ≡ true
+second-sound c = found-true (group-2 (c .before)) (c .if2 .left)
+
+third-sound : (c : tie.Else3) → let s = start (c .before .before .before .before .before .before .before .before) in (slot s 8 && slot s 9) ≡ true
+third-sound c = found-true (group-3 (c .before)) (c .if3 .left)
+
+is-sound-requires : tie.Need-is-sound-requires
+is-sound-requires c κs = asked (start c) 0 (omega arith)
+
+is-sound-requires-2 : tie.Need-is-sound-requires-2
+is-sound-requires-2 c κs = asked (start (c .before .before)) 6 (omega arith)
+
+is-sound-requires-3 : tie.Need-is-sound-requires-3
+is-sound-requires-3 c κs = asked (start (c .before .before .before)) 7 (omega arith)
+
+is-sound-requires-4 : tie.Need-is-sound-requires-4
+is-sound-requires-4 c κs = asked (start (c .before .before .before .before .before)) 8 (omega arith)
+
+is-sound-requires-5 : tie.Need-is-sound-requires-5
+is-sound-requires-5 c κs = asked (start (c .before .before .before .before .before .before)) 9 (omega arith)
+
+is-sound-requires-6 : tie.Need-is-sound-requires-6
+is-sound-requires-6 c κs = asked (start (c .before .before .before .before .before .before .before .before)) 10 (omega arith)
+
+is-sound-requires-7 : tie.Need-is-sound-requires-7
+is-sound-requires-7 c κs = asked (start (c .before .before .before .before .before .before .before .before .before)) 11 (omega arith)
+
+is-sound-requires-8 : tie.Need-is-sound-requires-8
+is-sound-requires-8 c κs = asked (start (c .before .before .before .before .before .before .before .before .before .before)) 12 (omega arith)
+
+is-sound-requires-9 : tie.Need-is-sound-requires-9
+is-sound-requires-9 c κs = asked (start (c .before .before .before .before .before .before .before .before .before .before .before)) 13 (omega arith)
+
+returns : tie.Need-returns
+returns c = rw (found-false (group-1 (c .before)) (c .if1 .taken)) at (tested (start (c .before .before)))
+
+returns-2 : tie.Need-returns-2
+returns-2 c = rw (first-sound (c .before .before .before), found-false (group-2 (c .before)) (c .if2 .taken)) at (tested (start (c .before .before .before .before .before)))
+
+returns-3 : tie.Need-returns-3
+returns-3 c = rw (first-sound (c .before .before .before .before .before .before), second-sound (c .before .before .before), found-false (group-3 (c .before)) (c .if3 .taken)) at (tested (start (c .before .before .before .before .before .before .before .before)))
+
+returns-4 : tie.Need-returns-4
 returns-4 c =
-    let l = c .before in
-    let long : length (start l .args .registers .slots) ≡ 14 = search (needs, length-mapped) in
-    sym (l .loop .inv .1 ∙ sound-end _ _ (l .loop .i) (omega arith))
+    let e = c .before .before .before .before in
+    rw (c .before .before .before .is-sound6 .ensures, c .before .before .is-sound7 .ensures, c .before .is-sound8 .ensures, c .is-sound9 .ensures)
+    (rw (first-sound (e .before .before .before .before .before .before), second-sound (e .before .before .before), third-sound e) at (tested (start (e .before .before .before .before .before .before .before .before))))
 
 pub sound-spec : {M : Type 1} → statement M
 sound-spec =
     tie.close
     (tie.spec
-    Inv-loop
-    μ-loop
     sub-status
     mul-status
     array-copy-out-status
-    returns
     array-copy-out-features
+    array-copy-out-queue0
+    array-copy-out-queue1
+    array-copy-out-queue2
+    array-copy-out-queue3
+    array-copy-out-notify0
+    array-copy-out-notify1
+    array-copy-out-notify2
+    array-copy-out-notify3
     is-sound-requires
-    returns-2
-    loop-holds
-    mul-r
-    array-copy-out-r
-    add-is-sound
+    returns
     is-sound-requires-2
+    is-sound-requires-3
+    returns-2
+    is-sound-requires-4
+    is-sound-requires-5
     returns-3
-    add-i
-    loop-less
-    loop-again
+    is-sound-requires-6
+    is-sound-requires-7
+    is-sound-requires-8
+    is-sound-requires-9
     returns-4)

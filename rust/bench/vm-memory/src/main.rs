@@ -50,7 +50,7 @@ mod tests {
         for mut measure in glint_bench::measures() {
             if let Some(kind) = measure.call.moves {
                 let program = VM_MEMORY.program(kind, &mut measure.world);
-                assert!(program.is_some(), "{kind:?} {}", measure.held);
+                assert!(program.is_some(), "{kind:?} {}", measure.world.held);
             }
         }
     }

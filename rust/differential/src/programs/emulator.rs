@@ -1,63 +1,59 @@
 //! One call on the emulator.
 
-use glintbasket::raw::{self, Found, Kept, Outcome, PartStep};
-use glintbasket::{DeviceAddress, MemoryAddress, State};
+use glintbasket::raw::{self, Found, Outcome, PartStep};
+use glintbasket::{DeviceAddress, Mapping, MemoryAddress, State};
 
 use crate::call::{Answer, Call};
 
-/// A call on the emulator: its answer, and the state that it leaves. A call that gives none back
-/// leaves the one that it was given.
+/// A call on the emulator, which changes state and records in place.
 pub fn emulate(
     call: &Call,
-    state: &State,
+    state: &mut State,
+    records: &mut [Mapping],
     memory: &mut [u8],
     marks: &mut [u8],
     buffer: &mut [u8],
-) -> (Answer, State) {
-    let mut left = *state;
-    let mut kept = |kept: Kept| {
-        left = kept.state;
-        told(kept.outcome)
-    };
-    let answer = match *call {
-        Call::FreshStart { card } => kept(raw::power_on(state, card, memory, marks)),
+) -> Answer {
+    told(match *call {
+        Call::FreshStart { card } => raw::power_on(state, records, memory, marks, card),
         Call::Request { target, number } => {
-            kept(raw::request(state, memory, marks, target, number, buffer))
+            raw::request(state, records, memory, marks, target, number, buffer)
         }
-        Call::LookUp { device } => found(&raw::look_up(state, DeviceAddress(device))),
+        Call::LookUp { device } => {
+            return found(&raw::look_up(state, records, DeviceAddress(device)))
+        }
         Call::CardRead { device } => {
             let device = DeviceAddress(device);
-            told(raw::device_read(state, memory, marks, device, buffer))
+            raw::device_read(state, records, memory, marks, device, buffer)
         }
         Call::CardWrite { device } => {
             let device = DeviceAddress(device);
-            told(raw::device_write(state, memory, marks, device, buffer))
+            raw::device_write(state, records, memory, marks, device, buffer)
         }
         Call::HostStore { address } => {
             let address = MemoryAddress(address);
-            told(raw::host_write(state, memory, marks, address, buffer))
+            raw::host_write(state, records, memory, marks, address, buffer)
         }
         Call::HostLoad { address } => {
             let address = MemoryAddress(address);
-            told(raw::host_read(state, memory, marks, address, buffer))
+            raw::host_read(state, records, memory, marks, address, buffer)
         }
         Call::Forget { address, length } => {
             let address = MemoryAddress(address);
-            told(raw::invalidate(state, memory, marks, address, length))
+            raw::invalidate(state, records, memory, marks, address, length)
         }
         Call::SetRegister { kind, selector } => {
-            kept(raw::set_register(state, kind, selector, buffer))
+            raw::set_register(state, records, kind, selector, buffer)
         }
         Call::ReadRegister { kind, selector } => {
-            told(raw::read_register(state, kind, selector, buffer))
+            raw::read_register(state, records, kind, selector, buffer)
         }
-        Call::LoadParts => told(raw::load_parts(&mut left, buffer)),
-        Call::SaveParts => told(raw::save_parts(state, buffer)),
-        Call::Stop => kept(raw::stop(state)),
-        Call::Start => kept(raw::start(state)),
-        Call::Walk { place } => walked(&raw::step(buffer, place as usize), place),
-    };
-    (answer, left)
+        Call::LoadParts => raw::load_parts(state, records, buffer),
+        Call::SaveParts => raw::save_parts(state, records, buffer),
+        Call::Stop => raw::stop(state, records),
+        Call::Start => raw::start(state, records),
+        Call::Walk { place } => return walked(&raw::step(buffer, place as usize), place),
+    })
 }
 
 /// Numbers that an answer has no use for are 0.

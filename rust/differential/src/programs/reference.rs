@@ -6,8 +6,23 @@ use glint_reference::{moves, parts, registers, requests};
 
 use crate::call::{Answer, Call};
 
-/// A call on the second program, which changes the state in place.
+/// A call on the second program with the first `records` of the state's, which changes them and the
+/// state in place.
 pub fn refer(
+    call: &Call,
+    state: &mut bench::State,
+    records: usize,
+    memory: &mut [u8],
+    marks: &mut [u8],
+    buffer: &mut [u8],
+) -> Answer {
+    let not_lent = state.records.split_off(records);
+    let answer = with_all_records(call, state, memory, marks, buffer);
+    state.records.extend(not_lent);
+    answer
+}
+
+fn with_all_records(
     call: &Call,
     state: &mut bench::State,
     memory: &mut [u8],

@@ -1,9 +1,12 @@
 //! The structs as C lays them out.
 
 use crate::address::{DeviceAddress, MemoryAddress, Rights};
-use crate::{kind, Card, MAPPINGS};
+use crate::{kind, Card};
 
-/// `size` bytes of memory from `memory` on, shown at the device addresses from `device` on.
+/// A record of the mapping table: `size` bytes of memory from `memory` on, shown at the device addresses from `device` on.
+///
+/// The table is a slice of records that is lent to each call. The first of them, as many as [`State::count`], are in use, by rising device
+/// address. The others are stale: no call looks at them, and a call changes one only where it puts it to use.
 #[repr(C)]
 #[derive(Clone, Copy, Debug, Default, PartialEq, Eq)]
 pub struct Mapping {
@@ -15,18 +18,6 @@ pub struct Mapping {
     pub size: u64,
     /// What the device may do with them.
     pub rights: Rights,
-}
-
-/// The mapping table.
-///
-/// Entries past `count` mean nothing; `==` looks at them all the same.
-#[repr(C)]
-#[derive(Clone, Copy, Debug, PartialEq, Eq)]
-pub struct Table {
-    /// The first `count` are in use, by rising device address.
-    pub entries: [Mapping; MAPPINGS],
-    /// How many entries are in use.
-    pub count: usize,
 }
 
 /// How many registers are kept.
@@ -72,15 +63,14 @@ pub struct Registers {
 /// What is kept between calls.
 ///
 /// Any values may stand in it: a call refuses a state that is not sound with [`BadBench`](crate::Refusal::BadBench). The default is
-/// zeros, which are not sound: a place for what a fresh start gives. `==` looks at every field, also at table entries and register
-/// bytes that mean nothing.
+/// zeros, which are not sound: a place for what a fresh start gives. `==` looks at every field, also at register bytes that mean nothing.
 #[repr(C)]
 #[derive(Clone, Copy, Debug, Default, PartialEq, Eq)]
 pub struct State {
     /// The memory's length, noted at the last fresh start.
     pub memory_length: u64,
-    /// The mappings held.
-    pub table: Table,
+    /// How many of the lent records are in use.
+    pub count: usize,
     /// The device's registers.
     pub registers: Registers,
     /// 1 if the device runs. Every other value says that it does not.
@@ -102,16 +92,6 @@ pub struct Outcome {
     pub place: u64,
     /// The result.
     pub result: u64,
-}
-
-/// An answer, and the state to keep.
-#[repr(C)]
-#[derive(Clone, Copy, Debug, PartialEq, Eq)]
-pub struct Kept {
-    /// The answer.
-    pub outcome: Outcome,
-    /// The state to keep: of a refused call, the one that it was given.
-    pub state: State,
 }
 
 /// Look-up's answer.
@@ -181,30 +161,22 @@ impl State {
     }
 }
 
-impl Default for Table {
-    fn default() -> Table {
-        Table {
-            entries: [Mapping::default(); MAPPINGS],
-            count: 0,
-        }
-    }
-}
-
 // The library's layout: include/glintbasket.h asserts the same numbers.
 const _: () = {
     use std::mem::{offset_of, size_of};
     assert!(size_of::<usize>() == 8);
     assert!(size_of::<Mapping>() == 32);
-    assert!(size_of::<Table>() == 2056);
+    assert!(offset_of!(Mapping, memory) == 8);
+    assert!(offset_of!(Mapping, size) == 16);
+    assert!(offset_of!(Mapping, rights) == 24);
     assert!(size_of::<Register>() == 33);
     assert!(size_of::<Registers>() == 462);
-    assert!(size_of::<State>() == 2528);
-    assert!(offset_of!(State, table) == 8);
-    assert!(offset_of!(State, registers) == 2064);
-    assert!(offset_of!(State, running) == 2526);
-    assert!(offset_of!(State, words) == 2527);
+    assert!(size_of::<State>() == 480);
+    assert!(offset_of!(State, count) == 8);
+    assert!(offset_of!(State, registers) == 16);
+    assert!(offset_of!(State, running) == 478);
+    assert!(offset_of!(State, words) == 479);
     assert!(size_of::<Outcome>() == 24);
-    assert!(size_of::<Kept>() == 2552);
     assert!(size_of::<Found>() == 40);
     assert!(size_of::<PartStep>() == 56);
 };

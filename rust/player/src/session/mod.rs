@@ -11,7 +11,7 @@ pub use call::Call;
 pub use number::byte;
 pub use request::output_size;
 
-use glintbasket::Card;
+use glintbasket::{Card, DEFAULT_RECORDS, RECORDS_LIMIT};
 use number::Number;
 use std::fmt;
 use words::{Line, Words};
@@ -27,6 +27,8 @@ pub struct Session {
     pub memory_size: usize,
     pub garbage: u8,
     pub card: Card,
+    /// How many mappings there is room for.
+    pub records: usize,
     pub steps: Vec<Step>,
 }
 
@@ -79,6 +81,7 @@ struct MemoryLine {
     size: u64,
     garbage: u8,
     card: Card,
+    records: usize,
 }
 
 impl Reader {
@@ -128,13 +131,15 @@ impl Reader {
         let size = words.number(&Number::up_to("SIZE", MEMORY_MAX));
         let garbage = garbage(words);
         let card = card(words);
-        words.finish("`memory SIZE [garbage BYTE] [card CARD]`");
+        let records = records(words);
+        words.finish("`memory SIZE [garbage BYTE] [card CARD] [mappings N]`");
         words.no_expectation();
         self.memory = Some(MemoryLine {
             line,
             size: size.unwrap_or(0),
             garbage: garbage.unwrap_or(GARBAGE),
             card: card.unwrap_or_default(),
+            records: records.unwrap_or(DEFAULT_RECORDS),
         });
     }
 
@@ -176,6 +181,7 @@ impl Reader {
                 memory_size: memory.size as usize,
                 garbage: memory.garbage,
                 card: memory.card,
+                records: memory.records,
                 steps: self.steps,
             }),
             _ => Err(self.faults),
@@ -206,13 +212,22 @@ fn card(words: &mut Words) -> Option<Card> {
 
 /// `garbage BYTE` on a `memory` line, if it is there.
 fn garbage(words: &mut Words) -> Option<u8> {
-    if !words.peek()?.is("garbage") {
+    named(words, "garbage", &Number::up_to("BYTE", 255)).map(|byte| byte as u8)
+}
+
+/// `mappings N` there.
+fn records(words: &mut Words) -> Option<usize> {
+    let number = Number::up_to("N", RECORDS_LIMIT as u64);
+    named(words, "mappings", &number).map(|count| count as usize)
+}
+
+/// A number behind a word that may be left out with it.
+fn named(words: &mut Words, name: &str, number: &Number) -> Option<u64> {
+    if !words.peek()?.is(name) {
         return None;
     }
     words.next();
-    words
-        .number(&Number::up_to("BYTE", 255))
-        .map(|byte| byte as u8)
+    words.number(number)
 }
 
 #[cfg(test)]

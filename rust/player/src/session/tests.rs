@@ -73,6 +73,16 @@ fn the_memory_line_gives_size_and_garbage() {
 }
 
 #[test]
+fn the_memory_line_gives_the_room_for_mappings() {
+    let records = |line: &str| read(line.as_bytes()).unwrap().records;
+    assert_eq!(records("memory 0"), 64);
+    assert_eq!(records("memory 0 mappings 0"), 0);
+    assert_eq!(records("memory 1 garbage 0 card 128 mappings 0x1000"), 4096);
+    let fault = &faults("memory 0 mappings 4097")[0];
+    assert_eq!(fault.2, "N: `4097` is above 4096");
+}
+
+#[test]
 fn the_memory_line_has_faults() {
     let place = |file| {
         let faults = faults(file);
@@ -89,6 +99,10 @@ fn the_memory_line_has_faults() {
     assert_eq!(place("memory 1 garbage"), (1, 17));
     assert_eq!(place("memory 1 garbage 256"), (1, 18));
     assert_eq!(place("memory 1 rubbish 3"), (1, 10));
+    assert_eq!(place("memory 1 mappings"), (1, 18));
+    assert_eq!(place("memory 1 mappings many"), (1, 19));
+    assert_eq!(place("memory 1 mappings 4097"), (1, 19));
+    assert_eq!(place("memory 1 mappings 1 garbage 0"), (1, 21));
     assert_eq!(place("memory 1 => ok 0"), (1, 10));
 }
 

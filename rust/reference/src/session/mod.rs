@@ -18,6 +18,8 @@ pub struct Session {
     pub garbage: u8,
     /// The words of the card's features.
     pub card: Words,
+    /// How many records there are for mappings.
+    pub records: usize,
     pub lines: Vec<Line>,
 }
 

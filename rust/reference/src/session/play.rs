@@ -4,7 +4,9 @@ use std::io::{self, Write};
 
 use super::{Call, Session};
 use crate::answer::Answer;
-use crate::bench::{fresh_start, mark_bytes, start, stop, DeviceAddress, MemoryAddress, State};
+use crate::bench::{
+    fresh_start, mark_bytes, start, stop, DeviceAddress, Mapping, MemoryAddress, State,
+};
 use crate::check_save::{check_save, SaveCheck};
 use crate::moves::{card_read, card_write, forget, host_load, host_store, look_up};
 use crate::parts::{load_parts, save_parts, step};
@@ -35,8 +37,9 @@ struct Player {
 
 impl Player {
     fn new(session: &Session) -> Player {
+        let records = vec![Mapping::filled(session.garbage); session.records];
         Player {
-            state: State::fresh_card(session.card, session.memory_size as u64),
+            state: State::fresh_card(session.card, session.memory_size as u64, records),
             memory: vec![session.garbage; session.memory_size],
             marks: vec![0; mark_bytes(session.memory_size)],
             garbage: session.garbage,

@@ -3,6 +3,7 @@
 use super::names::{request_named, Field, Named, REQUESTS};
 use super::words::{cut, Cut, Form, Word};
 use super::{Call, Fault, Line, Session};
+use crate::bench::{DEFAULT_RECORDS, RECORD_LIMIT};
 use crate::bytes::put_number;
 use crate::registers::Words;
 use crate::requests::{listed, CONTAINER, DEVICE};
@@ -32,10 +33,19 @@ pub fn byte(word: &str) -> Result<u8, String> {
 
 #[derive(Default)]
 struct Reader {
-    /// Size, garbage and card, once the first line was met (also a faulty one).
-    memory: Option<(u64, u8, Words)>,
+    /// Once it was met (also a faulty one).
+    memory: Option<FirstLine>,
     lines: Vec<Line>,
     faults: Vec<Fault>,
+}
+
+/// What the `memory` line says.
+#[derive(Default)]
+struct FirstLine {
+    size: u64,
+    garbage: u8,
+    card: Words,
+    records: u64,
 }
 
 impl Reader {
@@ -96,14 +106,17 @@ impl Reader {
     }
 
     fn read_memory(&mut self, column: usize, mut arguments: Arguments) {
-        let size = arguments.number_up_to("SIZE", MEMORY_LIMIT);
-        let garbage = arguments.garbage();
-        let card = arguments.card();
+        let first = FirstLine {
+            size: arguments.number_up_to("SIZE", MEMORY_LIMIT),
+            garbage: arguments.garbage(),
+            card: arguments.card(),
+            records: arguments.records(),
+        };
         arguments.no_more();
         if self.memory.is_some() {
             self.fault(arguments.line, column, "a second `memory` line");
         }
-        self.memory = Some((size, garbage, card));
+        self.memory = Some(first);
         self.faults.extend(arguments.faults);
     }
 
@@ -120,7 +133,7 @@ impl Reader {
                 word.column,
                 "`memory SIZE` must come before all calls",
             );
-            self.memory = Some((0, 0, 1)); // say it once
+            self.memory = Some(FirstLine::default()); // say it once
         }
         let call = arguments.call(word);
         self.faults.extend(arguments.faults);
@@ -139,10 +152,11 @@ impl Reader {
         }
         self.faults.sort_by_key(|fault| (fault.line, fault.column));
         match self.memory {
-            Some((size, garbage, card)) if self.faults.is_empty() => Ok(Session {
-                memory_size: size as usize,
-                garbage,
-                card,
+            Some(first) if self.faults.is_empty() => Ok(Session {
+                memory_size: first.size as usize,
+                garbage: first.garbage,
+                card: first.card,
+                records: first.records as usize,
                 lines: self.lines,
             }),
             _ => Err(self.faults),
@@ -261,6 +275,14 @@ impl Arguments {
             }
             None => 1,
         }
+    }
+
+    /// `[mappings N]`.
+    fn records(&mut self) -> u64 {
+        if self.takes("mappings") {
+            return self.number_up_to("N", RECORD_LIMIT as u64);
+        }
+        DEFAULT_RECORDS as u64
     }
 
     /// BYTES in which none may be stale, not even none of them (`?*0`).
@@ -584,6 +606,21 @@ mod tests {
         assert_eq!((session.memory_size, session.garbage), (4_096, 0xa5));
         let session = read(b"memory 1073741824 garbage 7").unwrap();
         assert_eq!((session.memory_size, session.garbage), (1 << 30, 7));
+    }
+
+    #[test]
+    fn memory_may_name_how_many_mappings_there_is_room_for() {
+        let records = |line: &str| read(line.as_bytes()).unwrap().records;
+        assert_eq!(records("memory 0"), 64);
+        assert_eq!(records("memory 0 mappings 0"), 0);
+        assert_eq!(
+            records("memory 0 garbage 7 card 128 mappings 0x1000"),
+            4_096
+        );
+        assert_eq!(faults("memory 0 mappings 4097"), [(1, 19)]);
+        assert_eq!(faults("memory 0 mappings -1"), [(1, 19)]);
+        assert_eq!(faults("memory 0 mappings"), [(1, 18)]);
+        assert_eq!(faults("memory 0 mappings 1 card 128"), [(1, 21)]);
     }
 
     #[test]

@@ -1,0 +1,40 @@
+-- Search by halving, over mappings by rising device address.
+use Prim.Native.Nat.{ℕ, zero, suc, _+_, _/_, _≤_, _<_}
+use mathlib.Core.Bool.{Bool, true, false}
+use mathlib.Core.List.{List}
+use lib.Dec.{ltb}
+use lib.ListN.{getD}
+use Rattle.answer.specs.Tests.{pick}
+use Rattle.address.specs.declared.DeviceAddress.{DeviceAddress}
+use Rattle.iommu.specs.declared.Mapping.{Mapping}
+use Rattle.iommu.specs.declared.Search.{Search}
+use Rattle.iommu.specs.Table.{capacity, blank, holds}
+
+abbrev pub search : ℕ → ℕ → ℕ → Bool → Search
+search lo hi probes held = record { lo = lo; hi = hi; probes = probes; held = held }
+
+-- it starts from 0 and the number held
+abbrev pub searchOf : ℕ → Search
+searchOf count = search 0 count 0 false
+
+-- of the places from lo up to but not including hi, it looks at the whole part of (lo + hi) / 2
+unfoldable pub middleOf : Search → ℕ
+middleOf s = (s .lo + s .hi) / 2
+
+-- it stops at a mapping that holds the address; else it goes on below or above that place
+unfoldable pub probed : Mapping → DeviceAddress → Search → Search
+probed m d s =
+    pick (holds m d) (search (middleOf s) (middleOf s) (s .probes + 1) true)
+    (pick (ltb (d .0) (m .device .0)) (search (s .lo) (middleOf s) (s .probes + 1) false)
+    (search (middleOf s + 1) (s .hi) (s .probes + 1) false))
+
+-- it stops when lo = hi; as many steps as there are places are always enough
+unfoldable pub searched : ℕ → List Mapping → DeviceAddress → Search → Search
+searched zero ms d s = s
+searched (suc fuel) ms d s = pick (ltb (s .lo) (s .hi)) (searched fuel ms d (probed (getD ms (middleOf s) blank) d s)) s
+
+-- a search that has places left, of so few that no sum leaves 64 bits
+pub record Open (s : Search) : Type 0 where
+  pub some : s .lo < s .hi
+  pub few : s .hi ≤ capacity
+  pub short : s .probes ≤ capacity

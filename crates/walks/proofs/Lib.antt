@@ -1,0 +1,9 @@
+pub mod Plain
+pub mod Rules
+pub mod Counts
+pub mod Structs
+pub mod Loans
+pub mod Kept
+pub mod Walk
+pub mod Items
+pub mod Lent
