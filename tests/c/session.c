@@ -207,6 +207,24 @@ static glint_outcome device_read(uint64_t iova, size_t length)
     return outcome;
 }
 
+// A look-up's whole answer: of one that is refused, all but the refusal is 0.
+static void check_look_up(uint64_t iova, glint_found want, int line)
+{
+    glint_found is = glint_bench_look_up(&bench, glint_device(iova));
+    check_outcome(is.outcome, want.outcome, line);
+    if (is.address.value == want.address.value && is.rights == want.rights && is.left == want.left)
+        return;
+    fprintf(stderr, "session.c:%d: address %llu rights %u left %llu, not address %llu rights %u left %llu\n", line,
+            (unsigned long long)is.address.value, is.rights, (unsigned long long)is.left, (unsigned long long)want.address.value,
+            want.rights, (unsigned long long)want.left);
+    faults++;
+}
+
+#define CHECK_FOUND(iova, at, right, rest)                                                                                              \
+    check_look_up((iova), (glint_found){.address = {at}, .rights = (right), .left = (rest)}, __LINE__)
+#define CHECK_NOT_FOUND(iova, number)                                                                                                   \
+    check_look_up((iova), (glint_found){.outcome = {.refused = true, .code = (number)}}, __LINE__)
+
 static bool marked(size_t from, size_t to, bool mark)
 {
     for (size_t i = from; i < to; i++)
@@ -274,7 +292,7 @@ static void bad_bench(void)
     bench.state.count = RECORDS + 1;
     CHECK_REFUSED(glint_bench_stop(&bench), GLINT_BAD_BENCH, 0);
     CHECK(bench.state.count == RECORDS + 1);
-    CHECK_REFUSED(glint_bench_look_up(&bench, glint_device(0)).outcome, GLINT_BAD_BENCH, 0);
+    CHECK_NOT_FOUND(0, GLINT_BAD_BENCH);
     bench.state = sound;
     bench.state.registers.slots[5].set = 0;
     CHECK_REFUSED(glint_bench_save_parts(&bench, fill(&buffer, 64), 64), GLINT_BAD_BENCH, 0);
@@ -330,11 +348,9 @@ static void map_and_look_up(void)
     CHECK(bench.records[0].size == PAGE);
     CHECK(bench.records[0].rights == 3);
 
-    glint_found found = glint_bench_look_up(&bench, glint_device(top + 7));
-    CHECK_DONE(found.outcome, 0);
-    CHECK(found.address.value == PAGE + 7 && found.rights == 3);
-    CHECK_REFUSED(glint_bench_look_up(&bench, glint_device(top - 1)).outcome, GLINT_UNMAPPED, 0);
-    CHECK_REFUSED(glint_bench_look_up(&bench, glint_device(GLINT_DEVICE_LIMIT)).outcome, GLINT_RANGE, 0);
+    CHECK_FOUND(top + 7, PAGE + 7, 3, PAGE - 7);
+    CHECK_NOT_FOUND(top - 1, GLINT_UNMAPPED);
+    CHECK_NOT_FOUND(GLINT_DEVICE_LIMIT, GLINT_RANGE);
 
     glint_state before = bench.state;
     CHECK_REFUSED(map(0, 0, PAGE, 0), GLINT_FLAGS, 0);
@@ -346,6 +362,22 @@ static void map_and_look_up(void)
     CHECK_REFUSED(map(0, UINT64_C(0xfffffffffffff000), PAGE, GLINT_READ), GLINT_RANGE, 0);
     CHECK_REFUSED(map(0, top - PAGE, 2 * PAGE, GLINT_READ), GLINT_OVERLAP, 0);
     CHECK_BYTES(&bench.state, &before, sizeof before);
+}
+
+// A mapping runs on to its own end, also where another adjoins, and whatever memory stands behind the two.
+static void bytes_left(void)
+{
+    fresh_bench();
+    CHECK_DONE(map(0, PAGE, 2 * PAGE, GLINT_READ), 0);
+    CHECK_DONE(map(2 * PAGE, 3 * PAGE, PAGE, GLINT_READ), 0);
+    CHECK_NOT_FOUND(PAGE - 1, GLINT_UNMAPPED);
+    CHECK_FOUND(PAGE, 0, GLINT_READ, 2 * PAGE);
+    CHECK_FOUND(PAGE + 100, 100, GLINT_READ, 2 * PAGE - 100);
+    CHECK_FOUND(2 * PAGE, PAGE, GLINT_READ, PAGE);
+    CHECK_FOUND(3 * PAGE - 1, 2 * PAGE - 1, GLINT_READ, 1);
+    CHECK_FOUND(3 * PAGE, 2 * PAGE, GLINT_READ, PAGE);
+    CHECK_FOUND(4 * PAGE - 1, 3 * PAGE - 1, GLINT_READ, 1);
+    CHECK_NOT_FOUND(4 * PAGE, GLINT_UNMAPPED);
 }
 
 // A map of a page of its own, by the page of its device address.
@@ -382,7 +414,8 @@ static void lent_records(void)
         CHECK(bench.state.count == length && stale(length, GLINT_RECORDS_LIMIT + 1));
         for (size_t page = 0; page < length; page++)
             CHECK(is_page(&bench.records[page], page + 1));
-        CHECK(length == 0 || !glint_bench_look_up(&bench, glint_device(length * PAGE)).outcome.refused);
+        if (length > 0)
+            CHECK_FOUND(length * PAGE, 0, GLINT_READ, PAGE);
     }
     CHECK_REFUSED(start_with(GLINT_RECORDS_LIMIT + 1), GLINT_BAD_BENCH, 0);
     fresh_bench();
@@ -404,7 +437,7 @@ static void stale_records(void)
     CHECK(is_page(&bench.records[2], 3) && is_page(&bench.records[3], 4));
 
     // What the stale ones hold decides nothing: page 3 is free, and others may write there.
-    CHECK_REFUSED(glint_bench_look_up(&bench, glint_device(3 * PAGE)).outcome, GLINT_UNMAPPED, 0);
+    CHECK_NOT_FOUND(3 * PAGE, GLINT_UNMAPPED);
     memset(&bench.records[2], 0xff, 2 * sizeof(glint_mapping));
     CHECK_DONE(map_page(3), 0);
     CHECK(is_page(&bench.records[1], 3) && is_page(&bench.records[2], 4));
@@ -429,9 +462,9 @@ static void exchanged_records(void)
     // Too few for those in use.
     bench.records_length = 3;
     CHECK_REFUSED(map_page(5), GLINT_BAD_BENCH, 0);
-    CHECK_REFUSED(glint_bench_look_up(&bench, glint_device(PAGE)).outcome, GLINT_BAD_BENCH, 0);
+    CHECK_NOT_FOUND(PAGE, GLINT_BAD_BENCH);
     bench.records_length = 4;
-    CHECK_DONE(glint_bench_look_up(&bench, glint_device(PAGE)).outcome, 0);
+    CHECK_FOUND(PAGE, 0, GLINT_READ, PAGE);
     // A record in use that is not sound; a stale one may be anything.
     more[3].rights = 4;
     CHECK_REFUSED(glint_bench_start(&bench), GLINT_BAD_BENCH, 0);
@@ -732,7 +765,7 @@ static void null_pointers(void)
     bench.records = NULL;
     CHECK_REFUSED(glint_bench_power_on(&bench), GLINT_NULL_POINTER, 0);
     CHECK_REFUSED(glint_bench_reset(&bench), GLINT_NULL_POINTER, 0);
-    CHECK_REFUSED(glint_bench_look_up(&bench, glint_device(0)).outcome, GLINT_NULL_POINTER, 0);
+    CHECK_NOT_FOUND(0, GLINT_NULL_POINTER);
     CHECK_REFUSED(device_read(0, 1), GLINT_NULL_POINTER, 0);
     CHECK_REFUSED(glint_bench_set_register(&bench, GLINT_DEVICE_STATUS, 0, "x", 1), GLINT_NULL_POINTER, 0);
     CHECK_REFUSED(glint_bench_read_register(&bench, GLINT_DEVICE_STATUS, 0, fill(&buffer, 1), 1), GLINT_NULL_POINTER, 0);
@@ -860,7 +893,7 @@ int main(void)
         TEST(unmap_ranges), TEST(device_reads),  TEST(device_writes), TEST(host_loads), TEST(device_info),   TEST(region_info),
         TEST(irq_info),     TEST(registers),     TEST(save_and_load), TEST(steps),      TEST(no_memory),     TEST(refusal_names),
         TEST(null_pointers), TEST(refused_info), TEST(flag_bytes), TEST(second_card), TEST(packed_marks),    TEST(lent_records),
-        TEST(stale_records), TEST(exchanged_records),
+        TEST(stale_records), TEST(exchanged_records), TEST(bytes_left),
     };
     const unsigned count = sizeof tests / sizeof *tests;
     unsigned failed = 0;

@@ -196,7 +196,7 @@ unwritten-clear shadow a h = unless-pass _ _ h
 pub read-clear : (shadow : Shadow) (t : Translation) → readFault shadow t ≡ Pass → initialized shadow (location t) ≡ true
 unfolding readFault location
 read-clear shadow Nowhere h = never _ _ h
-read-clear shadow (At a rights) h = unwritten-clear shadow a (then-pass _ _ h .1)
+read-clear shadow (At a rights left) h = unwritten-clear shadow a (then-pass _ _ h .1)
 
 byte-blind : (e : Emulator) (a : MemoryAddress) → initialized (e .memory .shadow) a ≡ true → byteAt (seen e .memory) a ≡ byteAt (e .memory) a
 unfolding byteAt seen mask written

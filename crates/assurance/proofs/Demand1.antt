@@ -62,12 +62,12 @@ request-listed (some r) buf e = search (listing, argsz-listed, listed-listed)
 
 read-fault-listed : (shadow : Shadow) (t : Translation) → Listed (readFault shadow t)
 unfolding readFault unwrittenAt
-read-fault-listed shadow (At a rights) = search listing
+read-fault-listed shadow (At a rights left) = search listing
 read-fault-listed shadow Nowhere = search listing
 
 write-fault-listed : (t : Translation) → Listed (writeFault t)
 unfolding writeFault
-write-fault-listed (At a rights) = search listing
+write-fault-listed (At a rights left) = search listing
 write-fault-listed Nowhere = search listing
 
 -- ---- registers and streams

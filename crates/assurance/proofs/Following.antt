@@ -152,7 +152,7 @@ gather-at ms m (suc n) d (suc i) h =
 read-held : (l : Ledger) (m : Memory) (t : Translation) → Holds (l .byte) m → readFault (m .shadow) t ≡ Pass → heldAt l t ≡ some (byteAt m (location t))
 unfolding heldAt location readFault
 read-held l m Nowhere h e = never _ _ e
-read-held l m (At a rights) h e = h .bytes a (read-clear (m .shadow) (At a rights) e)
+read-held l m (At a rights left) h e = h .bytes a (read-clear (m .shadow) (At a rights left) e)
 
 filled-by : (held : ℕ → Option ℕ) (lent out : List ℕ) (n : ℕ) → length lent ≡ n → length out ≡ n
     → ((i : ℕ) → i < n → held i ≡ some (getD out i 0)) → FilledBy held n (sets lent 0 out)

@@ -96,7 +96,7 @@ located-below n ms d s ok = go (translate ms d) refl ok
   where
     go : (t : Translation) → translate ms d ≡ t → writeFault t ≡ Pass → location t .0 < n
     go Nowhere e p = never _ _ p
-    go (At a rights) e p = translate-bounds n ms d a rights s e .0
+    go (At a rights left) e p = translate-bounds n ms d a rights left s e .0
 
 scatter-below : (n : ℕ) (ms : List Mapping) → soundTable n ms ≡ true → (xs : List ℕ) (d : DeviceAddress)
     → ((i : ℕ) → i < length xs → writeFault (translate ms (deviceOffset d i)) ≡ Pass) → Below n (scatter ms d xs)

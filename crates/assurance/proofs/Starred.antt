@@ -13,8 +13,8 @@ use Rattle.answer.proofs.Tests.{and-true}
 use Rattle.address.specs.Address.{memoryAddress, aligned, inDeviceRange, inMemoryRange}
 use Rattle.address.specs.declared.MemoryAddress.{MemoryAddress}
 use Rattle.wire.specs.Field.{field, bytesOf}
-use Rattle.iommu.specs.Table.{holds, addressIn, translate, mapped, validRights, readable, alignedMapping, inRange, soundMapping, soundMappingsFrom, soundTable, touches, inside, anyOf, overlaps, cuts, insert, without, totalSize}
-use Rattle.iommu.specs.Requests.{mapChecks, unmapChecks}
+use Rattle.iommu.specs.Table.{holds, addressIn, leftIn, translate, mapped, validRights, readable, alignedMapping, inRange, soundMapping, soundMappingsFrom, soundTable, touches, inside, anyOf, overlaps, cuts, insert, without, totalSize}
+use Rattle.iommu.specs.Requests.{translateChecks, mapChecks, unmapChecks}
 use Rattle.memory.specs.Shadow.{initialized, marked, shadowLength}
 use Rattle.bitmap.specs.Bits.{bit, withBit}
 use Rattle.memory.specs.Memory.{edit, edited, stores}
@@ -31,16 +31,16 @@ use Rattle.parts.specs.Save.{encoded, partOf, savedFrom, saved, saveChecks}
 use Rattle.emulator.specs.Machine.{lendableRecords, soundMappings, soundLength, soundCard, soundRegisters, sound, lendable, asNoted, usable, poweredOn, withMappings, withRegisters}
 use Rattle.emulator.specs.Effect.{Result, value, location, effectOf, outcomeOf, after, filled}
 use Rattle.emulator.specs.Requests.{entryIn, identify, regionAt, requestedMapping, requestedStart, requestedSize, requestedIndex, argszChecks, listedChecks, sizeChecks, requestChecks, listedEffect, requestEffect}
-use Rattle.emulator.specs.Calls.{given, ownChecks, checks, effect, outcome}
+use Rattle.emulator.specs.Calls.{given, ownChecks, checks, located, effect, outcome}
 use Rattle.assurance.specs.Starred.{lentRecords, Case, Right, AllRight, none, more, outcomeTo, behind, outcomeIn, mapAt, unmapBuffer, unmapAt, twoMappings, statusPart, offeredPart, offeredPart128, regionSeven, cases, Starred}
 
 -- ---- the test, and that it tells
 
 sameResult : Result → Result → Bool
 sameResult (value m) (value n) = eqb m n
-sameResult (value m) (location b s) = false
-sameResult (location a r) (value n) = false
-sameResult (location a r) (location b s) = eqb (a .0) (b .0) and eqb r s
+sameResult (value m) (location b s k) = false
+sameResult (location a r l) (value n) = false
+sameResult (location a r l) (location b s k) = eqb (a .0) (b .0) and eqb r s and eqb l k
 
 sameAnswer : Answer Result → Answer Result → Bool
 sameAnswer (done r) (done s) = sameResult r s
@@ -57,10 +57,12 @@ sameBytes (x ∷ xs) (y ∷ ys) = eqb x y and sameBytes xs ys
 same-result : (r s : Result) → sameResult r s ≡ true → r ≡ s
 unfolding sameResult
 same-result (value m) (value n) h = ap value (eqb-true m n h)
-same-result (value m) (location b s) h = absurd (false≢true h)
-same-result (location a r) (value n) h = absurd (false≢true h)
-same-result (location a r) (location b s) h =
-    ap₂ location (ap memoryAddress (eqb-true (a .0) (b .0) (and-true _ _ h .0))) (eqb-true r s (and-true _ _ h .1))
+same-result (value m) (location b s k) h = absurd (false≢true h)
+same-result (location a r l) (value n) h = absurd (false≢true h)
+same-result (location a r l) (location b s k) h =
+    let p = and-true _ _ h in
+    let q = and-true _ _ (p .0) in
+    rw (eqb-true r s (q .1), eqb-true l k (p .1)) (ap (λ (x : MemoryAddress). location x s k) (ap memoryAddress (eqb-true (a .0) (b .0) (q .0))))
 
 same-answer : (a b : Answer Result) → sameAnswer a b ≡ true → a ≡ b
 unfolding sameAnswer
@@ -97,7 +99,7 @@ all-right (c ∷ cs) h = more (is-right c (and-true _ _ h .0)) (all-right cs (an
 -- ---- the test passes
 
 tested : allRight cases ≡ true
-unfolding sameResult sameAnswer sameBytes right allRight lentRecords outcomeTo behind outcomeIn mapAt unmapBuffer unmapAt twoMappings statusPart offeredPart offeredPart128 regionSeven cases _and_ _or_ pick isSome lengthCheck _then_ _when_ _unless_ _at_ firstFault passes settle _onward_ verdict resultOr aligned inDeviceRange inMemoryRange field bytesOf holds addressIn translate mapped validRights readable alignedMapping inRange soundMapping soundMappingsFrom soundTable touches inside anyOf overlaps cuts insert without totalSize mapChecks unmapChecks initialized marked bit withBit shadowLength edit edited stores unwrittenAt hostWriteChecks readFault transferChecks deviceReadChecks kindOf selectorOf widthOf sizeIn sizeOf rowFrom rowOf selects listed selectorWidth offeredWord offered eachWord within powerOfTwo validQueue contentChecks valueChecks current withValue reset soundValue soundValuesFrom soundFile selectorChecks setChecks valueSize headerChecks partAt stepOn partStep stepAt valueTo flagsOf listedPartChecks partChecks named taken finish onStep loadFrom load encoded partOf savedFrom saved saveChecks lendableRecords soundMappings soundLength wordsOf isCard soundCard soundRegisters sound lendable asNoted usable poweredOn withMappings withRegisters effectOf outcomeOf after filled entryIn identify regionAt requestedMapping requestedStart requestedSize requestedIndex argszChecks listedChecks sizeChecks requestChecks listedEffect requestEffect given ownChecks checks effect outcome
+unfolding sameResult sameAnswer sameBytes right allRight lentRecords outcomeTo behind outcomeIn mapAt unmapBuffer unmapAt twoMappings statusPart offeredPart offeredPart128 regionSeven cases _and_ _or_ pick isSome lengthCheck _then_ _when_ _unless_ _at_ firstFault passes settle _onward_ verdict resultOr aligned inDeviceRange inMemoryRange field bytesOf holds addressIn translate mapped validRights readable alignedMapping inRange soundMapping soundMappingsFrom soundTable touches inside anyOf overlaps cuts insert without totalSize mapChecks unmapChecks initialized marked bit withBit shadowLength edit edited stores unwrittenAt hostWriteChecks readFault transferChecks deviceReadChecks kindOf selectorOf widthOf sizeIn sizeOf rowFrom rowOf selects listed selectorWidth offeredWord offered eachWord within powerOfTwo validQueue contentChecks valueChecks current withValue reset soundValue soundValuesFrom soundFile selectorChecks setChecks valueSize headerChecks partAt stepOn partStep stepAt valueTo flagsOf listedPartChecks partChecks named taken finish onStep loadFrom load encoded partOf savedFrom saved saveChecks lendableRecords soundMappings soundLength wordsOf isCard soundCard soundRegisters sound lendable asNoted usable poweredOn withMappings withRegisters effectOf outcomeOf after filled entryIn identify regionAt requestedMapping requestedStart requestedSize requestedIndex argszChecks listedChecks sizeChecks requestChecks listedEffect requestEffect given ownChecks checks effect outcome leftIn translateChecks located
 tested = refl
 
 pub starred : Starred

@@ -1,10 +1,10 @@
--- The worked values of rules 7.1 to 7.12, 7.19 to 7.22 and 7.26 to 7.29, as one table under one statement (rule 8.5).
+-- The worked values of rules 7.1 to 7.12, 7.19 to 7.22 and 7.26 to 7.30, as one table under one statement (rule 8.5).
 use Prim.Native.Nat.{ℕ, _+_, _-_, _/_, _^_}
 use mathlib.Core.Path.{_≡_}
 use mathlib.Core.Bool.{Bool}
 use mathlib.Core.List.{List, [], _∷_, _++_}
 use lib.ListN.{length, replicate}
-use Rattle.answer.specs.Codes.{BadBench, Empty, Range, Overlap, NoRoom, Cuts, Unwritten, Twice, Value, Mismatch, Missing}
+use Rattle.answer.specs.Codes.{BadBench, Empty, Range, Overlap, NoRoom, Cuts, Unmapped, Unwritten, Twice, Value, Mismatch, Missing}
 use Rattle.answer.specs.Answer.{Answer, done, refused}
 use Rattle.address.specs.Address.{page, deviceLimit, deviceAddress, memoryAddress}
 use Rattle.memory.specs.Shadow.{packed}
@@ -13,9 +13,9 @@ use Rattle.registers.specs.Rows.{DriverFeatures, QueueConfig}
 use Rattle.registers.specs.declared.Card.{Card}
 use Rattle.registers.specs.declared.Card.the-variants.{Features64, Features128}
 use Rattle.emulator.specs.Machine.{Emulator, poweredOn}
-use Rattle.emulator.specs.Effect.{Result, value, Outcome, after, filled}
+use Rattle.emulator.specs.Effect.{Result, value, location, Outcome, after, filled}
 use Rattle.emulator.specs.Requests.{container, device}
-use Rattle.emulator.specs.Calls.{Call, powerOn, request, deviceRead, hostWrite, setRegister, loadParts, saveParts, stop, outcome}
+use Rattle.emulator.specs.Calls.{Call, powerOn, request, lookUp, deviceRead, hostWrite, setRegister, loadParts, saveParts, stop, outcome}
 use Rattle.assurance.specs.Runs.{Ask}
 
 -- an emulator that is lent so many records
@@ -171,6 +171,11 @@ cases =
     ∷ answers [] (powerOn Features64 lent [] within 4096) (gives 0)
     -- rule 7.29: fewer records than are in use
     ∷ answers (mapAt 0 4096 ∷ []) (stop lent [] within 0) (refused BadBench 0)
+    -- rule 7.30: a mapping runs on to its end, and not into the one that adjoins
+    ∷ answers twoMappings (lookUp (deviceAddress 4097) lent []) (done (location (memoryAddress 4097) 3 4095))
+    ∷ answers twoMappings (lookUp (deviceAddress 8191) lent []) (done (location (memoryAddress 8191) 3 1))
+    ∷ answers twoMappings (lookUp (deviceAddress 8192) lent []) (done (location (memoryAddress 0) 3 4096))
+    ∷ answers twoMappings (lookUp (deviceAddress 12288) lent []) (refused Unmapped 0)
     ∷ []
 
 -- The statement: all of them are right. proofs/Starred.antt has its term.

@@ -25,7 +25,7 @@ refusal code place = record { refused = true; code = code; place = place; result
 -- the answer of a call; look-up's has its values beside it
 abbrev pub answerStruct : Answer Result → Outcome
 answerStruct (done (value n)) = success n
-answerStruct (done (location a rights)) = success 0
+answerStruct (done (location a rights left)) = success 0
 answerStruct (refused code place) = refusal code place
 
 -- a call that is done wherever refusal 1 passes
@@ -34,9 +34,9 @@ doneIf ok = cond ok (success 0) (refusal BadBench 0)
 
 -- look-up's answer
 abbrev pub foundStruct : Answer Result → Found
-foundStruct (done (value n)) = record { outcome = success n; address = memoryAddress 0; rights = 0 }
-foundStruct (done (location a rights)) = record { outcome = success 0; address = a; rights = rights }
-foundStruct (refused code place) = record { outcome = refusal code place; address = memoryAddress 0; rights = 0 }
+foundStruct (done (value n)) = record { outcome = success n; address = memoryAddress 0; rights = 0; left = 0 }
+foundStruct (done (location a rights left)) = record { outcome = success 0; address = a; rights = rights; left = left }
+foundStruct (refused code place) = record { outcome = refusal code place; address = memoryAddress 0; rights = 0; left = 0 }
 
 -- a step that found no part: refused, or at the end; the walk goes on at `next`
 abbrev pub noPart : Bool → ℕ → ℕ → ℕ → PartStep

@@ -55,12 +55,13 @@ pub struct Outcome {
     pub result: u64,
 }
 
-// Look-up's answer: its result is a memory address and rights.
+// Look-up's answer: its result is a memory address, rights, and the bytes left from the device address to the end of its mapping.
 #[repr(C)]
 pub struct Found {
     pub outcome: Outcome,
     pub address: MemoryAddress,
     pub rights: u32,
+    pub left: u64,
 }
 
 // One step over a stream of parts: a refusal; the end; or a part, with the bounds of its value in the stream. `next` is the place of the
@@ -114,12 +115,13 @@ fn location(l: Location) -> Found
     ensures { λ r. ⌜ r ≡ foundStruct (toldLocation l) ⌝ }
 {
     match l {
-        Location::At(address, rights) => {
+        Location::At(address, rights, left) => {
             let outcome = success(0);
             Found {
                 outcome,
                 address,
                 rights,
+                left,
             }
         }
         Location::Refused(code, place) => {
@@ -128,6 +130,7 @@ fn location(l: Location) -> Found
                 outcome,
                 address: MemoryAddress(0),
                 rights: 0,
+                left: 0,
             }
         }
     }

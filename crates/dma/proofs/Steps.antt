@@ -21,20 +21,20 @@ use Rattle.wire.specs.Field.{slice}
 use Rattle.wire.proofs.Laws.{sets-all}
 use Rattle.address.specs.Address.{deviceLimit, memoryAddress, deviceOffset, inDeviceRange}
 use Rattle.address.specs.declared.DeviceAddress.{DeviceAddress}
-use Rattle.iommu.specs.Table.{Table, translate, mapped, inRange, inUse, firstPast}
+use Rattle.address.specs.declared.MemoryAddress.{MemoryAddress}
+use Rattle.iommu.specs.Table.{Table, shownBy, translate, mapped, inRange, inUse, firstPast}
 use Rattle.iommu.specs.declared.Mapping.{Mapping}
-use Rattle.iommu.specs.declared.Translation.the-variants.{Nowhere}
+use Rattle.iommu.specs.declared.Translation.{Translation}
+use Rattle.iommu.specs.declared.Translation.the-variants.{At, Nowhere}
 use Rattle.memory.specs.Memory.{Memory, memoryOf, edited, stores}
 use Rattle.memory.specs.Shadow.{Shadow, markBytes}
 use Rattle.memory.proofs.Edits.{edited-bytes-length, edited-shadow-length}
 use Rattle.dma.specs.Transfers.{transferChecks, gather, scatter}
-use Rattle.dma.specs.Walk.{Ready, Accepted, RunBounds, runIn, faultOf, progress, beginning, goingOn, judgedRun, judgedBy, judged, finished, walkAt, walkedOn, readRun, writtenRun}
+use Rattle.dma.specs.Walk.{Ready, Accepted, RunBounds, runLength, faultOf, progress, beginning, goingOn, judgedRun, judgedBy, judged, finished, walkAt, walkedOn, readRun, writtenRun}
 use Rattle.dma.specs.declared.Checked.{Checked}
 use Rattle.dma.specs.declared.Progress.{Progress}
-use Rattle.dma.specs.declared.Run.{Run}
-use Rattle.dma.specs.declared.Run.the-variants.{Gap, Passed, Shows}
 use Rattle.dma.specs.declared.Walk.{Walk}
-use Rattle.dma.proofs.Ahead.{entry, Come, walk-start, end-nowhere, gap-nowhere, walk-past, run-room, run-translate, run-shown, walk-run, walk-range, walk-bounds}
+use Rattle.dma.proofs.Ahead.{entry, Come, walk-start, next-shown, end-nowhere, run-room, run-translate, run-shown, walk-run, walk-range, walk-bounds}
 use Rattle.dma.proofs.Gather.{gather-length}
 use Rattle.dma.proofs.Transfers.{fault-nowhere, runFault, checks-offsets, gather-more, scatter-more}
 
@@ -63,32 +63,32 @@ module _ {write : Bool} {shadow : Shadow} {size : ℕ} {t : Table} {d : DeviceAd
   pub judged-end : t .count ≤ i → k < n → firstFault (faultAt write shadow t d) n ≡ Fail Unmapped k
   judged-end h b = unmapped b (end-nowhere (s .walk) h b)
 
-  -- what the mapping at index i shows from offset k on
-  module _ (more : i < t .count) {r : Run} (is : r ≡ runIn (entry t i) (deviceOffset d k) (n - k)) where
-    pub judged-gap : r ≡ Gap → k < n → firstFault (faultAt write shadow t d) n ≡ Fail Unmapped k
-    judged-gap e b = unmapped b (gap-nowhere (s .walk) more is e b)
+  -- the record at index i shows no mapping of the address at offset k
+  pub judged-nowhere : Nowhere ≡ shownBy (entry t i) (deviceOffset d k) → k < n → firstFault (faultAt write shadow t d) n ≡ Fail Unmapped k
+  judged-nowhere is b = unmapped b (next-shown (s .walk) b ∙ sym is)
 
-    pub judged-past : r ≡ Passed → Judged write shadow size t d n k (i + 1)
-    judged-past e = record { walk = walk-past (s .walk) more is e; clean = s .clean }
+  -- a run, and the verdict v on it
+  module _ (more : i < t .count) {a : MemoryAddress} {rights left : ℕ} (is : At a rights left ≡ shownBy (entry t i) (deviceOffset d k)) (b : k < n)
+      {v : Verdict} (judged : v ≡ firstFault (runFault write shadow (a .0) rights left) (runLength left (n - k))) where
+    abbrev len : ℕ
+    len = runLength left (n - k)
 
-    -- a run, and the verdict v on it
-    module _ {a len : ℕ} (e : r ≡ Shows a len) {v : Verdict} (judged : v ≡ firstFault (runFault write shadow a (entry t i .rights)) len) where
-      on-run : firstFault (λ j. faultAt write shadow t d (k + j)) len ≡ v
-      on-run =
-          firstFault-cong _ _ len (λ j h.
-          let same : d .0 + (k + j) ≡ d .0 + k + j = omega arith in
-          rw same (ap (faultOf write shadow) (run-translate (s .walk) more is e j h)))
-          ∙ sym judged
+    on-run : firstFault (λ j. faultAt write shadow t d (k + j)) len ≡ v
+    on-run =
+        firstFault-cong _ _ len (λ j h.
+        let same : d .0 + (k + j) ≡ d .0 + k + j = omega arith in
+        rw same (ap (faultOf write shadow) (run-translate (s .walk) more is b j h)))
+        ∙ sym judged
 
-      pub judged-fault : (code place : ℕ) → v ≡ Fail code place → firstFault (faultAt write shadow t d) n ≡ Fail code (k + place)
-      judged-fault code place h =
-          firstFault-run (faultAt write shadow t d) n k len code place (run-room (s .walk) more is e .1) (s .clean) (on-run ∙ h)
+    pub judged-fault : (code place : ℕ) → v ≡ Fail code place → firstFault (faultAt write shadow t d) n ≡ Fail code (k + place)
+    judged-fault code place h =
+        firstFault-run (faultAt write shadow t d) n k len code place (run-room (s .walk) more is b .1) (s .clean) (on-run ∙ h)
 
-      pub judged-run : v ≡ Pass → Judged write shadow size t d n (k + len) (i + 1)
-      judged-run h = record {
-        walk = walk-run (s .walk) more is e;
-        clean = passes-run (faultAt write shadow t d) k len (s .clean) (firstFault-all (λ j. faultAt write shadow t d (k + j)) len (on-run ∙ h));
-      }
+    pub judged-run : v ≡ Pass → Judged write shadow size t d n (k + len) (i + 1)
+    judged-run h = record {
+      walk = walk-run (s .walk) more is b;
+      clean = passes-run (faultAt write shadow t d) k len (s .clean) (firstFault-all (λ j. faultAt write shadow t d (k + j)) len (on-run ∙ h));
+    }
 
 -- ---- a transfer being judged
 
@@ -172,20 +172,20 @@ module _ {write : Bool} {shadow : Shadow} {size : ℕ} {t : Table} {d : DeviceAd
         let k = clean-so-far in
         (record { passed = λ _. (q, k .1, k .2); failed = λ code place h. never code place (sym h) }, turns-fewer done)
 
-    by-verdict : {a len : ℕ} → Shows a len ≡ runIn (entry t (p .place)) (deviceOffset d (p .done)) (n - p .done) → (v : Verdict) → v ≡ firstFault (runFault write shadow a (entry t (p .place) .rights)) len → Next (judgedRun p len v)
+    by-verdict : {a : MemoryAddress} {rights left : ℕ} → At a rights left ≡ shownBy (entry t (p .place)) (deviceOffset d (p .done)) → (v : Verdict) → v ≡ firstFault (runFault write shadow (a .0) rights left) (runLength left (n - p .done))
+        → Next (judgedRun p (runLength left (n - p .done)) v)
     unfolding judgedRun
-    by-verdict {a} {len} is Pass e = onward (p .done + len) (judged-run (clean-so-far .0) (going-facts .2) is refl e refl)
-    by-verdict {a} {len} is (Fail code place) e = over code (p .done + place) (judged-fault (clean-so-far .0) (going-facts .2) is refl e code place refl)
+    by-verdict is Pass e = onward _ (judged-run (clean-so-far .0) (going-facts .2) is (going-facts .1) e refl)
+    by-verdict is (Fail code place) e = over code (p .done + place) (judged-fault (clean-so-far .0) (going-facts .2) is (going-facts .1) e code place refl)
 
-    by-run : (r : Run) → r ≡ runIn (entry t (p .place)) (deviceOffset d (p .done)) (n - p .done) → Next (judgedBy (faultOf write shadow) (entry t (p .place) .rights) p r)
+    by-record : (r : Translation) → r ≡ shownBy (entry t (p .place)) (deviceOffset d (p .done)) → Next (judgedBy (faultOf write shadow) n p r)
     unfolding judgedBy
-    by-run Gap is = over Unmapped (p .done) (judged-gap (clean-so-far .0) (going-facts .2) is refl (going-facts .1))
-    by-run Passed is = onward (p .done) (judged-past (clean-so-far .0) (going-facts .2) is refl)
-    by-run (Shows a len) is = by-verdict is _ refl
+    by-record Nowhere is = over Unmapped (p .done) (judged-nowhere (clean-so-far .0) is (going-facts .1))
+    by-record (At a rights left) is = by-verdict is _ refl
 
     pub judging-on : (m : Mapping) → m ≡ entry t (p .place) → (r : Progress) → r ≡ judged (faultOf write shadow) m d n p → Next r
     unfolding judged
-    judging-on m e r is = rw (is, e) (by-run _ refl)
+    judging-on m e r is = rw (is, e) (by-record _ refl)
 
     pub judging-range : (m : Mapping) → m ≡ entry t (p .place) → inRange size m ≡ true
     judging-range m e = rw e (walk-range (clean-so-far .0 .walk) (going-facts .2))
@@ -214,8 +214,8 @@ module _ {t : Table} {size : ℕ} {d : DeviceAddress} {n k i : ℕ} (accepted : 
   unfolding mapped
   nowhere b e = absurd (false≢true (rw e at (accepted .held k b)))
 
-  pub no-gap : {X : Type 0} → i < t .count → {r : Run} → r ≡ runIn (entry t i) (deviceOffset d k) (n - k) → r ≡ Gap → k < n → X
-  no-gap more is e b = nowhere b (gap-nowhere w more is e b)
+  pub no-gap : {X : Type 0} → Nowhere ≡ shownBy (entry t i) (deviceOffset d k) → k < n → X
+  no-gap is b = nowhere b (next-shown w b ∙ sym is)
 
   pub walk-over : t .count ≤ i → n ≤ k
   walk-over h = go (ltb k n) refl
@@ -236,11 +236,10 @@ walking-out {X} w n count out f g = go (ltb (w .done) n) refl
     go false e = f (ltb-false (w .done) n e)
 
 -- each turn goes on by one record
-walked-less : (w : Walk) (r : Run) (v : Walk) → v ≡ walkedOn w r → (count : ℕ) → w .place < count → count - v .place < count - w .place
+walked-less : (n : ℕ) (w : Walk) (r : Translation) (v : Walk) → v ≡ walkedOn n w r → (count : ℕ) → w .place < count → count - v .place < count - w .place
 unfolding walkedOn
-walked-less w Gap v is count h = rw is (omega arith)
-walked-less w Passed v is count h = rw is (omega arith)
-walked-less w (Shows a len) v is count h = rw is (omega arith)
+walked-less n w Nowhere v is count h = rw is (omega arith)
+walked-less n w (At a rights left) v is count h = rw is (omega arith)
 
 -- ---- reading
 
@@ -270,22 +269,18 @@ module _ {t : Table} {bytes : List ℕ} {d : DeviceAddress} {old buf : List ℕ}
   pub reading-end : t .count ≤ i → (shadow : List ℕ) → buf ≡ gather (inUse t) (memoryOf bytes shadow) d (length old)
   reading-end h = reading-done (walk-over (s .accepted) (s .walk) h)
 
-  module _ (more : i < t .count) {r : Run} (is : r ≡ runIn (entry t i) (deviceOffset d k) (length old - k)) where
-    pub reading-past : r ≡ Passed → Reading t bytes d old buf k (i + 1)
-    reading-past e = record { accepted = s .accepted; walk = walk-past (s .walk) more is e; long = s .long; rest = s .rest }
-
-    pub reading-run : {a len : ℕ} → r ≡ Shows a len
-        → (new : List ℕ) → new ≡ sets buf k (slice bytes a len) → Reading t bytes d old new (k + len) (i + 1)
-    reading-run {a} {len} e new stored = record {
-      accepted = s .accepted;
-      walk = walk-run (s .walk) more is e;
-      long = rw stored (length-sets buf k (slice bytes a len) ∙ s .long);
-      rest = λ shadow.
-          rw stored
-          (gather-more (inUse t) d k a len (run-shown (s .walk) more is e) (memoryOf bytes shadow) (length old) buf
-          (run-room (s .walk) more is e .1) (run-room (s .walk) more is e .0)
-          ∙ s .rest shadow);
-    }
+  pub reading-run : i < t .count → {a : MemoryAddress} {rights left : ℕ} → At a rights left ≡ shownBy (entry t i) (deviceOffset d k) → k < length old
+      → (new : List ℕ) → new ≡ sets buf k (slice bytes (a .0) (runLength left (length old - k))) → Reading t bytes d old new (k + runLength left (length old - k)) (i + 1)
+  reading-run more {a} {rights} {left} is b new stored = record {
+    accepted = s .accepted;
+    walk = walk-run (s .walk) more is b;
+    long = rw stored (length-sets buf k (slice bytes (a .0) (runLength left (length old - k))) ∙ s .long);
+    rest = λ shadow.
+        rw stored
+        (gather-more (inUse t) d k (a .0) (runLength left (length old - k)) (run-shown (s .walk) more is b) (memoryOf bytes shadow) (length old) buf
+        (run-room (s .walk) more is b .1) (run-room (s .walk) more is b .0)
+        ∙ s .rest shadow);
+  }
 
 pub reading-from : {t : Table} (bytes : List ℕ) (d : DeviceAddress) (buf : List ℕ) → Ready t (length bytes) → Accepted (inUse t) d (length buf) → (first : ℕ) → first ≡ firstPast d (inUse t) → (w : Walk) → w ≡ walkAt first 0
     → Reading t bytes d buf buf (w .done) (w .place)
@@ -299,18 +294,17 @@ module _ {t : Table} {bytes : List ℕ} {d : DeviceAddress} {old buf : List ℕ}
         let f = walking-facts w (length old) (t .count) go in
         rw (e, s .long) (walk-bounds (s .walk) (f .1) (f .0) (s .accepted .range) (length bytes) (omega arith))
 
-    by-run-read : (r : Run) → r ≡ runIn (entry t (w .place)) (deviceOffset d (w .done)) (length old - w .done) → Reading t bytes d old (readRun bytes (w .done) r buf) (walkedOn w r .done) (walkedOn w r .place)
+    by-record-read : (r : Translation) → r ≡ shownBy (entry t (w .place)) (deviceOffset d (w .done)) → Reading t bytes d old (readRun bytes (w .done) r buf) (walkedOn (length buf) w r .done) (walkedOn (length buf) w r .place)
     unfolding readRun walkedOn
-    by-run-read Gap is = let f = walking-facts w (length old) (t .count) go in no-gap (s .accepted) (s .walk) (f .1) is refl (f .0)
-    by-run-read Passed is = reading-past s (walking-facts w (length old) (t .count) go .1) is refl
-    by-run-read (Shows a len) is = reading-run s (walking-facts w (length old) (t .count) go .1) is refl _ refl
+    by-record-read Nowhere is = no-gap (s .accepted) (s .walk) is (walking-facts w (length old) (t .count) go .0)
+    by-record-read (At a rights left) is = let f = walking-facts w (length old) (t .count) go in rw (s .long) (reading-run s (f .1) is (f .0) _ refl)
 
-    pub reading-on : (v : Walk) (new : List ℕ) → (v ≡ walkedOn w (runIn m (deviceOffset d (w .done)) (length buf - w .done))) × (new ≡ readRun bytes (w .done) (runIn m (deviceOffset d (w .done)) (length buf - w .done)) buf)
+    pub reading-on : (v : Walk) (new : List ℕ) → (v ≡ walkedOn (length buf) w (shownBy m (deviceOffset d (w .done)))) × (new ≡ readRun bytes (w .done) (shownBy m (deviceOffset d (w .done))) buf)
         → Reading t bytes d old new (v .done) (v .place)
-    reading-on v new is = rw (is .0, is .1, e, s .long) (by-run-read _ refl)
+    reading-on v new is = rw (is .0, is .1, e) (by-record-read _ refl)
 
-    pub reading-less : (v : Walk) → v ≡ walkedOn w (runIn m (deviceOffset d (w .done)) (length buf - w .done)) → t .count - v .place < t .count - w .place
-    reading-less v is = walked-less w _ v is (t .count) (walking-facts w (length old) (t .count) go .1)
+    pub reading-less : (v : Walk) → v ≡ walkedOn (length buf) w (shownBy m (deviceOffset d (w .done))) → t .count - v .place < t .count - w .place
+    reading-less v is = walked-less (length buf) w _ v is (t .count) (walking-facts w (length old) (t .count) go .1)
 
   pub reading-over : (ltb (w .done) (length old) and ltb (w .place) (t .count)) ≡ false → (shadow : List ℕ) → buf ≡ gather (inUse t) (memoryOf bytes shadow) d (length old)
   reading-over out = walking-out w (length old) (t .count) out (reading-done s) (reading-end s)
@@ -343,22 +337,18 @@ module _ {t : Table} {d : DeviceAddress} {buf : List ℕ} {old new : Memory} {k 
   pub writing-end : t .count ≤ i → new ≡ edited (scatter (inUse t) d buf) old
   writing-end h = writing-done (walk-over (s .accepted) (s .walk) h)
 
-  module _ (more : i < t .count) {r : Run} (is : r ≡ runIn (entry t i) (deviceOffset d k) (length buf - k)) where
-    pub writing-past : r ≡ Passed → Writing t d buf old new k (i + 1)
-    writing-past e = record { accepted = s .accepted; walk = walk-past (s .walk) more is e; bytes-long = s .bytes-long; shadow-long = s .shadow-long; rest = s .rest }
-
-    pub writing-run : {a len : ℕ} → r ≡ Shows a len
-        → (next : Memory) → next ≡ edited (stores (memoryAddress a) (slice buf k len)) new → Writing t d buf old next (k + len) (i + 1)
-    writing-run {a} {len} e next stored = record {
-      accepted = s .accepted;
-      walk = walk-run (s .walk) more is e;
-      bytes-long = ap (λ (m : Memory). length (m .bytes)) stored ∙ edited-bytes-length _ new ∙ s .bytes-long;
-      shadow-long = ap (λ (m : Memory). markBytes (m .shadow)) stored ∙ edited-shadow-length _ new ∙ s .shadow-long;
-      rest =
-          rw stored
-          (scatter-more (inUse t) d k a len (run-shown (s .walk) more is e) new buf (run-room (s .walk) more is e .1)
-          ∙ s .rest);
-    }
+  pub writing-run : i < t .count → {a : MemoryAddress} {rights left : ℕ} → At a rights left ≡ shownBy (entry t i) (deviceOffset d k) → k < length buf
+      → (next : Memory) → next ≡ edited (stores a (slice buf k (runLength left (length buf - k)))) new → Writing t d buf old next (k + runLength left (length buf - k)) (i + 1)
+  writing-run more {a} {rights} {left} is b next stored = record {
+    accepted = s .accepted;
+    walk = walk-run (s .walk) more is b;
+    bytes-long = ap (λ (m : Memory). length (m .bytes)) stored ∙ edited-bytes-length _ new ∙ s .bytes-long;
+    shadow-long = ap (λ (m : Memory). markBytes (m .shadow)) stored ∙ edited-shadow-length _ new ∙ s .shadow-long;
+    rest =
+        rw stored
+        (scatter-more (inUse t) d k (a .0) (runLength left (length buf - k)) (run-shown (s .walk) more is b) new buf (run-room (s .walk) more is b .1)
+        ∙ s .rest);
+  }
 
 pub writing-from : {t : Table} (d : DeviceAddress) (buf : List ℕ) (m : Memory) → Ready t (length (m .bytes)) → Accepted (inUse t) d (length buf) → (first : ℕ) → first ≡ firstPast d (inUse t) → (w : Walk) → w ≡ walkAt first 0
     → Writing t d buf m m (w .done) (w .place)
@@ -374,19 +364,18 @@ module _ {t : Table} {d : DeviceAddress} {buf bytes₀ shadow₀ bytes shadow : 
         let y : length shadow ≡ length shadow₀ = s .shadow-long in
         (rw e (walk-bounds (s .walk) (f .1) (f .0) (s .accepted .range) (length bytes) (omega arith)), omega arith)
 
-    by-run-written : (r : Run) → r ≡ runIn (entry t (w .place)) (deviceOffset d (w .done)) (length buf - w .done) → (new : Memory) → new ≡ edited (writtenRun buf (w .done) r) (memoryOf bytes shadow)
-        → Writing t d buf (memoryOf bytes₀ shadow₀) new (walkedOn w r .done) (walkedOn w r .place)
+    by-record-written : (r : Translation) → r ≡ shownBy (entry t (w .place)) (deviceOffset d (w .done)) → (new : Memory) → new ≡ edited (writtenRun buf (w .done) r) (memoryOf bytes shadow)
+        → Writing t d buf (memoryOf bytes₀ shadow₀) new (walkedOn (length buf) w r .done) (walkedOn (length buf) w r .place)
     unfolding writtenRun walkedOn edited
-    by-run-written Gap is new n = let f = walking-facts w (length buf) (t .count) go in no-gap (s .accepted) (s .walk) (f .1) is refl (f .0)
-    by-run-written Passed is new n = rw n (writing-past s (walking-facts w (length buf) (t .count) go .1) is refl)
-    by-run-written (Shows a len) is new n = writing-run s (walking-facts w (length buf) (t .count) go .1) is refl new n
+    by-record-written Nowhere is new n = no-gap (s .accepted) (s .walk) is (walking-facts w (length buf) (t .count) go .0)
+    by-record-written (At a rights left) is new n = let f = walking-facts w (length buf) (t .count) go in writing-run s (f .1) is (f .0) new n
 
-    pub writing-on : (v : Walk) (bytes′ shadow′ : List ℕ) → (v ≡ walkedOn w (runIn m (deviceOffset d (w .done)) (length buf - w .done))) × (memoryOf bytes′ shadow′ ≡ edited (writtenRun buf (w .done) (runIn m (deviceOffset d (w .done)) (length buf - w .done))) (memoryOf bytes shadow))
+    pub writing-on : (v : Walk) (bytes′ shadow′ : List ℕ) → (v ≡ walkedOn (length buf) w (shownBy m (deviceOffset d (w .done)))) × (memoryOf bytes′ shadow′ ≡ edited (writtenRun buf (w .done) (shownBy m (deviceOffset d (w .done)))) (memoryOf bytes shadow))
         → Writing t d buf (memoryOf bytes₀ shadow₀) (memoryOf bytes′ shadow′) (v .done) (v .place)
-    writing-on v bytes′ shadow′ is = rw (is .0, e) (by-run-written _ refl (memoryOf bytes′ shadow′) (rw e at (is .1)))
+    writing-on v bytes′ shadow′ is = rw (is .0, e) (by-record-written _ refl (memoryOf bytes′ shadow′) (rw e at (is .1)))
 
-    pub writing-less : (v : Walk) → v ≡ walkedOn w (runIn m (deviceOffset d (w .done)) (length buf - w .done)) → t .count - v .place < t .count - w .place
-    writing-less v is = walked-less w _ v is (t .count) (walking-facts w (length buf) (t .count) go .1)
+    pub writing-less : (v : Walk) → v ≡ walkedOn (length buf) w (shownBy m (deviceOffset d (w .done))) → t .count - v .place < t .count - w .place
+    writing-less v is = walked-less (length buf) w _ v is (t .count) (walking-facts w (length buf) (t .count) go .1)
 
   pub writing-over : (ltb (w .done) (length buf) and ltb (w .place) (t .count)) ≡ false → memoryOf bytes shadow ≡ edited (scatter (inUse t) d buf) (memoryOf bytes₀ shadow₀)
   writing-over out = walking-out w (length buf) (t .count) out (writing-done s) (writing-end s)

@@ -35,8 +35,8 @@ use Rattle.dma.proofs.Gather.{gather-append}
 -- ---- the fault of one byte
 
 -- of a run from `a` on
-abbrev pub runFault : Bool → Shadow → ℕ → ℕ → ℕ → Verdict
-runFault write shadow a rights i = faultOf write shadow (At (memoryOffset (memoryAddress a) i) rights)
+abbrev pub runFault : Bool → Shadow → ℕ → ℕ → ℕ → ℕ → Verdict
+runFault write shadow a rights left i = faultOf write shadow (At (memoryOffset (memoryAddress a) i) rights (left - i))
 
 pub fault-nowhere : (write : Bool) (shadow : Shadow) → faultOf write shadow Nowhere ≡ Fail Unmapped 0
 unfolding faultOf pick readFault writeFault
@@ -46,37 +46,37 @@ fault-nowhere false shadow = refl
 -- a byte without a fault is mapped
 fault-mapped : (write : Bool) (shadow : Shadow) (at : Translation) → faultOf write shadow at ≡ Pass → mapped at ≡ true
 unfolding mapped
-fault-mapped write shadow (At a rights) h = refl
+fault-mapped write shadow (At a rights left) h = refl
 fault-mapped write shadow Nowhere h = never Unmapped 0 (sym (fault-nowhere write shadow) ∙ h)
 
 -- ---- the first fault of a run, which a mapping shows with these rights
 
-module _ (write : Bool) (shadow : Shadow) (a n rights : ℕ) where
-  no-right : pick write (writable rights) (readable rights) ≡ false → 0 < n → firstFault (runFault write shadow a rights) n ≡ Fail NoRight 0
+module _ (write : Bool) (shadow : Shadow) (a n rights left : ℕ) where
+  no-right : pick write (writable rights) (readable rights) ≡ false → 0 < n → firstFault (runFault write shadow a rights left) n ≡ Fail NoRight 0
   unfolding faultOf pick readFault writeFault
-  no-right h some = firstFault-at (runFault write shadow a rights) n 0 NoRight 0 some (λ i l. absurd (omega arith)) (go write h)
+  no-right h some = firstFault-at (runFault write shadow a rights left) n 0 NoRight 0 some (λ i l. absurd (omega arith)) (go write h)
     where
-      go : (w : Bool) → pick w (writable rights) (readable rights) ≡ false → runFault w shadow a rights 0 ≡ Fail NoRight 0
+      go : (w : Bool) → pick w (writable rights) (readable rights) ≡ false → runFault w shadow a rights left 0 ≡ Fail NoRight 0
       go true e = unless-false _ _ e
       go false e = then-fail _ _ _ _ (unless-false _ _ e)
 
   module _ (is : write ≡ true) where
-    pub write-no-right : (rights / 2 % 2 ≡ 1 → ⊥) → 0 < n → firstFault (runFault write shadow a rights) n ≡ Fail NoRight 0
+    pub write-no-right : (rights / 2 % 2 ≡ 1 → ⊥) → 0 < n → firstFault (runFault write shadow a rights left) n ≡ Fail NoRight 0
     unfolding pick writable
     write-no-right h = no-right (rw is (ne-eqb _ _ h))
 
-    pub write-passes : rights / 2 % 2 ≡ 1 → firstFault (runFault write shadow a rights) n ≡ Pass
+    pub write-passes : rights / 2 % 2 ≡ 1 → firstFault (runFault write shadow a rights left) n ≡ Pass
     unfolding faultOf pick writeFault writable
-    write-passes h = rw is (firstFault-pass (runFault true shadow a rights) n (λ i l. unless-true _ _ (eq-eqb _ _ h)))
+    write-passes h = rw is (firstFault-pass (runFault true shadow a rights left) n (λ i l. unless-true _ _ (eq-eqb _ _ h)))
 
   module _ (is : write ≡ false) where
-    pub read-no-right : (rights % 2 ≡ 1 → ⊥) → 0 < n → firstFault (runFault write shadow a rights) n ≡ Fail NoRight 0
+    pub read-no-right : (rights % 2 ≡ 1 → ⊥) → 0 < n → firstFault (runFault write shadow a rights left) n ≡ Fail NoRight 0
     unfolding pick readable
     read-no-right h = no-right (rw is (ne-eqb _ _ h))
 
-    pub read-written : rights % 2 ≡ 1 → firstFault (runFault write shadow a rights) n ≡ unwrittenIn shadow (memoryAddress a) n
+    pub read-written : rights % 2 ≡ 1 → firstFault (runFault write shadow a rights left) n ≡ unwrittenIn shadow (memoryAddress a) n
     unfolding faultOf pick readFault readable unwrittenIn
-    read-written h = rw is (firstFault-cong (runFault false shadow a rights) _ n (λ i l. then-next _ _ (unless-true _ _ (eq-eqb _ _ h))))
+    read-written h = rw is (firstFault-cong (runFault false shadow a rights left) _ n (λ i l. then-next _ _ (unless-true _ _ (eq-eqb _ _ h))))
 
 -- ---- checks
 

@@ -20,13 +20,13 @@ use Rattle.memory.specs.Transfers.{unwrittenAt}
 -- rule 4.3, what is wrong with one byte: 14, then 15, then for a read 16
 unfoldable pub readFault : Shadow → Translation → Verdict
 readFault shadow Nowhere = Fail Unmapped 0
-readFault shadow (At a rights) =
+readFault shadow (At a rights left) =
     NoRight unless readable rights
     then unwrittenAt shadow a
 
 unfoldable pub writeFault : Translation → Verdict
 writeFault Nowhere = Fail Unmapped 0
-writeFault (At a rights) = NoRight unless writable rights
+writeFault (At a rights left) = NoRight unless writable rights
 
 -- rule 4.3: 13, 9, then each offset in order tries its own; the first fault decides. A length of 0 has no offset to try (rule 4.10).
 unfoldable pub transferChecks : (Translation → Verdict) → List Mapping → DeviceAddress → ℕ → Verdict
@@ -43,7 +43,7 @@ deviceWriteChecks ms d n = transferChecks writeFault ms d n
 
 -- the memory address that a translation gives; 0 where it gives none, which no accepted transfer meets
 unfoldable pub location : Translation → MemoryAddress
-location (At a rights) = a
+location (At a rights left) = a
 location Nowhere = memoryAddress 0
 
 -- rule 4.5: the `n` bytes of memory that the device addresses from `d` on show, in however many mappings (rule 4.4)

@@ -1,4 +1,4 @@
--- What the walks over the table are stated with: a transfer goes run by run, a run being what one mapping shows of it.
+-- What the walks over the table are stated with: a transfer goes run by run, a run being what one mapping shows of it (rules 4.4, 4.11).
 use Prim.Native.Nat.{ℕ, _+_, _-_, _≤_, _<_}
 use mathlib.Core.Bool.{Bool, true}
 use mathlib.Core.Path.{_≡_}
@@ -15,16 +15,14 @@ use Rattle.answer.specs.declared.Verdict.the-variants.{Pass, Fail}
 use Rattle.wire.specs.Field.{slice}
 use Rattle.address.specs.Address.{deviceLimit, memoryLimit, memoryAddress, memoryOffset, deviceOffset, inDeviceRange}
 use Rattle.address.specs.declared.DeviceAddress.{DeviceAddress}
-use Rattle.iommu.specs.Table.{Table, capacity, end, addressIn, translate, mapped, inRange, soundTable, inUse}
+use Rattle.iommu.specs.Table.{Table, capacity, shownBy, translate, mapped, inRange, soundTable, inUse}
 use Rattle.iommu.specs.declared.Mapping.{Mapping}
 use Rattle.iommu.specs.declared.Translation.{Translation}
-use Rattle.iommu.specs.declared.Translation.the-variants.{At}
+use Rattle.iommu.specs.declared.Translation.the-variants.{At, Nowhere}
 use Rattle.memory.specs.Shadow.{Shadow}
 use Rattle.memory.specs.Memory.{Edit, stores}
 use Rattle.dma.specs.declared.Checked.{Checked}
 use Rattle.dma.specs.declared.Progress.{Progress}
-use Rattle.dma.specs.declared.Run.{Run}
-use Rattle.dma.specs.declared.Run.the-variants.{Gap, Passed, Shows}
 use Rattle.dma.specs.declared.Walk.{Walk}
 use Rattle.dma.specs.Transfers.{readFault, writeFault, location}
 
@@ -44,14 +42,9 @@ pub record Accepted (ms : List Mapping) (d : DeviceAddress) (n : ℕ) : Type 0 w
 abbrev pub Contiguous : List Mapping → DeviceAddress → ℕ → ℕ → Type 0
 Contiguous ms d a n = (j : ℕ) → j < n → location (translate ms (deviceOffset d j)) ≡ memoryAddress (a + j)
 
--- what a mapping shows of the `n` device addresses from `d` on (rule 4.4): nothing, since it begins past `d` or ends before it; or the
--- first of them, up to its end
-unfoldable pub runIn : Mapping → DeviceAddress → ℕ → Run
-runIn m d n =
-    pick (ltb (d .0) (m .device .0)) Gap
-    (pick (ltb (d .0) (end m))
-    (Shows (addressIn m d .0) (pick (ltb (end m - d .0) n) (end m - d .0) n))
-    Passed)
+-- rule 4.11: a run is as long as look-up says is left of its mapping, or as what is left of the transfer
+unfoldable pub runLength : ℕ → ℕ → ℕ
+runLength left n = pick (ltb left n) left n
 
 -- what is wrong with one byte, of a write or of a read
 unfoldable pub faultOf : Bool → Shadow → Translation → Verdict
@@ -87,14 +80,15 @@ unfoldable pub judgedRun : Progress → ℕ → Verdict → Progress
 judgedRun p len Pass = progress Pass (p .place + 1) (p .done + len)
 judgedRun p len (Fail code place) = progress (Fail code (p .done + place)) (p .place) (p .done)
 
--- what one record shows
-unfoldable pub judgedBy : (Translation → Verdict) → ℕ → Progress → Run → Progress
-judgedBy fault rights p Gap = progress (Fail Unmapped (p .done)) (p .place) (p .done)
-judgedBy fault rights p Passed = progress Pass (p .place + 1) (p .done)
-judgedBy fault rights p (Shows a len) = judgedRun p len (firstFault (λ i. fault (At (memoryOffset (memoryAddress a) i) rights)) len)
+-- what the record says of the next address: the run that begins there, each byte of it as look-up shows it, or no mapping
+unfoldable pub judgedBy : (Translation → Verdict) → ℕ → Progress → Translation → Progress
+judgedBy fault n p Nowhere = progress (Fail Unmapped (p .done)) (p .place) (p .done)
+judgedBy fault n p (At a rights left) =
+    let len = runLength left (n - p .done) in
+    judgedRun p len (firstFault (λ i. fault (At (memoryOffset a i) rights (left - i))) len)
 
 unfoldable pub judged : (Translation → Verdict) → Mapping → DeviceAddress → ℕ → Progress → Progress
-judged fault m d n p = judgedBy fault (m .rights) p (runIn m (deviceOffset d (p .done)) (n - p .done))
+judged fault m d n p = judgedBy fault n p (shownBy m (deviceOffset d (p .done)))
 
 -- an offset that no record shows is not mapped
 unfoldable pub finished : Progress → ℕ → ℕ → Checked
@@ -105,19 +99,16 @@ finished p first n = checked (p .verdict then Unmapped when ltb (p .done) n at p
 abbrev pub walkAt : ℕ → ℕ → Walk
 walkAt place done = record { place = place; done = done }
 
--- behind one record
-unfoldable pub walkedOn : Walk → Run → Walk
-walkedOn w Gap = walkAt (w .place + 1) (w .done)
-walkedOn w Passed = walkAt (w .place + 1) (w .done)
-walkedOn w (Shows a len) = walkAt (w .place + 1) (w .done + len)
+-- behind one record, in a transfer of `n` bytes
+unfoldable pub walkedOn : ℕ → Walk → Translation → Walk
+walkedOn n w Nowhere = walkAt (w .place + 1) (w .done)
+walkedOn n w (At a rights left) = walkAt (w .place + 1) (w .done + runLength left (n - w .done))
 
 -- what it shows of memory, read into a buffer; and of a buffer, stored
-unfoldable pub readRun : List ℕ → ℕ → Run → List ℕ → List ℕ
-readRun bytes done Gap buf = buf
-readRun bytes done Passed buf = buf
-readRun bytes done (Shows a len) buf = sets buf done (slice bytes a len)
+unfoldable pub readRun : List ℕ → ℕ → Translation → List ℕ → List ℕ
+readRun bytes done Nowhere buf = buf
+readRun bytes done (At a rights left) buf = sets buf done (slice bytes (a .0) (runLength left (length buf - done)))
 
-unfoldable pub writtenRun : List ℕ → ℕ → Run → List Edit
-writtenRun buf done Gap = []
-writtenRun buf done Passed = []
-writtenRun buf done (Shows a len) = stores (memoryAddress a) (slice buf done len)
+unfoldable pub writtenRun : List ℕ → ℕ → Translation → List Edit
+writtenRun buf done Nowhere = []
+writtenRun buf done (At a rights left) = stores a (slice buf done (runLength left (length buf - done)))

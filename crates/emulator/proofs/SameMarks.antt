@@ -45,7 +45,7 @@ module _ (t : Shadow) (e : Emulator)
     fault-same : (x : Translation) → readFault t x ≡ readFault (e .memory .shadow) x
     unfolding readFault unwrittenAt
     fault-same Nowhere = refl
-    fault-same (At a rights) = ap (λ (b : Bool). NoRight unless readable rights then Unwritten unless b) (same a)
+    fault-same (At a rights left) = ap (λ (b : Bool). NoRight unless readable rights then Unwritten unless b) (same a)
 
     read-same : (ms : List Mapping) (d : DeviceAddress) (n : ℕ) → deviceReadChecks ms t d n ≡ deviceReadChecks ms (e .memory .shadow) d n
     unfolding deviceReadChecks transferChecks

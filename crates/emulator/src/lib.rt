@@ -45,9 +45,9 @@ pub struct State {
 // What the byte `running` of a state holds where the device runs.
 const RUNNING: u8 = 1;
 
-// What look-up answers: memory address and rights, or a refusal's number and place.
+// What look-up answers: memory address, rights and the bytes left of the mapping, or a refusal's number and place.
 pub enum Location {
-    At(MemoryAddress, u32),
+    At(MemoryAddress, u32, u64),
     Refused(u32, u64),
 }
 
@@ -192,7 +192,7 @@ pub fn locate(ok: bool, d: DeviceAddress, m: Mapping) -> Location
     }
     let found = iommu::shown_by(m, d);
     match found {
-        Translation::At(a, rights) => Location::At(a, rights),
+        Translation::At(a, rights, left) => Location::At(a, rights, left),
         Translation::Nowhere => Location::Refused(answer::UNMAPPED, 0),
     }
 }

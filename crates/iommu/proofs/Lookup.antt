@@ -14,7 +14,7 @@ use Rattle.address.specs.declared.MemoryAddress.{MemoryAddress}
 use Rattle.iommu.specs.declared.Mapping.{Mapping}
 use Rattle.iommu.specs.declared.Translation.{Translation}
 use Rattle.iommu.specs.declared.Translation.the-variants.{At, Nowhere}
-use Rattle.iommu.specs.Table.{end, holds, addressIn, translate, validRights, soundMappingsFrom, soundTable, touches, overlaps, insert, without}
+use Rattle.iommu.specs.Table.{end, holds, addressIn, leftIn, shown, translate, validRights, soundMappingsFrom, soundTable, touches, overlaps, insert, without}
 use Rattle.iommu.proofs.Soundness.{Facts, mapping-facts, sound-split}
 use Rattle.iommu.proofs.Changes.{apart-facts, overlaps-split}
 
@@ -31,14 +31,14 @@ find (m ∷ ms) d = pick (holds m d) (some m) (find ms d)
 -- where a mapping that was found puts the address
 unfoldable pub located : DeviceAddress → Option Mapping → Translation
 located d none = Nowhere
-located d (some m) = At (addressIn m d) (m .rights)
+located d (some m) = shown m d
 
 pub translate-find : (ms : List Mapping) (d : DeviceAddress) → translate ms d ≡ located d (find ms d)
 unfolding translate find located
 translate-find [] d = refl
 translate-find (m ∷ ms) d = go (holds m d) (translate-find ms d)
   where
-    go : (s : Bool) → translate ms d ≡ located d (find ms d) → pick s (At (addressIn m d) (m .rights)) (translate ms d) ≡ located d (pick s (some m) (find ms d))
+    go : (s : Bool) → translate ms d ≡ located d (find ms d) → pick s (shown m d) (translate ms d) ≡ located d (pick s (some m) (find ms d))
     go true ih = unfold pick in refl
     go false ih = unfold pick in ih
 
@@ -121,7 +121,7 @@ find-insert m (x ∷ xs) o d =
     go false o ih = unfold pick in rw ih (swap (holds x d) (holds m d) (some x) (some m) (find xs d) (not-both m x o d))
 
 pub translate-insert : (m : Mapping) (ms : List Mapping) → overlaps (m .device) (m .size) ms ≡ false → (d : DeviceAddress)
-    → translate (insert m ms) d ≡ pick (holds m d) (At (addressIn m d) (m .rights)) (translate ms d)
+    → translate (insert m ms) d ≡ pick (holds m d) (shown m d) (translate ms d)
 unfolding translate
 translate-insert m ms o d = translate-find (insert m ms) d ∙ ap (located d) (find-insert m ms o d) ∙ sym (translate-find (m ∷ ms) d)
 
@@ -173,13 +173,14 @@ module _ (test : Mapping → Bool) (ms : List Mapping) (a : Apart ms) (d : Devic
 -- ---- what a translation tells
 
 -- the mapping by which a device address lies at a memory address
-pub record Found (size : ℕ) (ms : List Mapping) (d : DeviceAddress) (a : MemoryAddress) (rights : ℕ) : Type 0 where
+pub record Found (size : ℕ) (ms : List Mapping) (d : DeviceAddress) (a : MemoryAddress) (rights left : ℕ) : Type 0 where
   pub mapping : Mapping
   pub is : find ms d ≡ some mapping
   pub holding : holds mapping d ≡ true
   pub facts : Facts size mapping
   pub address : a ≡ addressIn mapping d
   pub allowed : rights ≡ mapping .rights
+  pub runs : left ≡ leftIn mapping d
 
 find-facts : (size low : ℕ) (ms : List Mapping) (d : DeviceAddress) (m : Mapping) → soundMappingsFrom size low ms ≡ true → find ms d ≡ some m → (holds m d ≡ true) × Facts size m
 unfolding find
@@ -193,22 +194,22 @@ find-facts size low (x ∷ xs) d m e f =
     go true h f k ih = let e : x ≡ m = unfold pick in cc in rw (← e) (h, k)
     go false h f k ih = ih (unfold pick in f)
 
-pub translate-found : (size : ℕ) (ms : List Mapping) (d : DeviceAddress) (a : MemoryAddress) (rights : ℕ) → soundTable size ms ≡ true → translate ms d ≡ At a rights
-    → Found size ms d a rights
+pub translate-found : (size : ℕ) (ms : List Mapping) (d : DeviceAddress) (a : MemoryAddress) (rights left : ℕ) → soundTable size ms ≡ true → translate ms d ≡ At a rights left
+    → Found size ms d a rights left
 unfolding soundTable
-translate-found size ms d a rights s e = go (find ms d) refl (sym (translate-find ms d) ∙ e)
+translate-found size ms d a rights left s e = go (find ms d) refl (sym (translate-find ms d) ∙ e)
   where
-    go : (o : Option Mapping) → find ms d ≡ o → located d o ≡ At a rights → Found size ms d a rights
+    go : (o : Option Mapping) → find ms d ≡ o → located d o ≡ At a rights left → Found size ms d a rights left
     go none f l = absurd (let z : _≡_ {A = ℕ} 0 1 = unfold located in cc in omega arith)
     go (some m) f l =
         let p = find-facts size 0 ms d m s f in
-        record { mapping = m; is = f; holding = p .0; facts = p .1; address = unfold located in cc; allowed = unfold located in cc }
+        record { mapping = m; is = f; holding = p .0; facts = p .1; address = unfold located in cc; allowed = unfold located in cc; runs = unfold located in cc }
 
-pub translate-bounds : (size : ℕ) (ms : List Mapping) (d : DeviceAddress) (a : MemoryAddress) (rights : ℕ) → soundTable size ms ≡ true → translate ms d ≡ At a rights
+pub translate-bounds : (size : ℕ) (ms : List Mapping) (d : DeviceAddress) (a : MemoryAddress) (rights left : ℕ) → soundTable size ms ≡ true → translate ms d ≡ At a rights left
     → (a .0 < size) × (validRights rights ≡ true)
 unfolding addressIn validRights
-translate-bounds size ms d a rights s e =
-    let f = translate-found size ms d a rights s e in
+translate-bounds size ms d a rights left s e =
+    let f = translate-found size ms d a rights left s e in
     let h = holds-facts (f .mapping) d (f .holding) in
     let k = f .facts in
     let r = f .allowed in

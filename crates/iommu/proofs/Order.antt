@@ -15,9 +15,9 @@ use Rattle.address.specs.Address.{deviceOffset}
 use Rattle.address.specs.declared.DeviceAddress.{DeviceAddress}
 use Rattle.iommu.specs.declared.Mapping.{Mapping}
 use Rattle.iommu.specs.declared.Translation.the-variants.{At, Nowhere}
-use Rattle.iommu.specs.Table.{blank, end, holds, addressIn, shownBy, translate, soundMapping, soundMappingsFrom, soundTable, touches, inside, anyOf, overlaps, cuts, insert, without, totalSize, insertedAt, withoutRun, sizesBetween, firstPast, sticksOut}
+use Rattle.iommu.specs.Table.{blank, end, holds, shown, shownBy, translate, soundMapping, soundMappingsFrom, soundTable, touches, inside, anyOf, overlaps, cuts, insert, without, totalSize, insertedAt, withoutRun, sizesBetween, firstPast, sticksOut}
 use Rattle.iommu.specs.Requests.{Removes}
-use Rattle.iommu.proofs.Soundness.{mapping-facts, sound-split}
+use Rattle.iommu.proofs.Soundness.{mapping-facts, sound-split, sound-at}
 use Rattle.iommu.proofs.Changes.{apart-facts, overlaps-split}
 use Rattle.iommu.proofs.Lookup.{holds-facts, translate-below}
 
@@ -135,6 +135,24 @@ module _ (size : ℕ) where
             absurd (omega arith)
         go false t = omega (arith, ltb-false (firstPast d ms) i t, past-below d ms i (f .1))
 
+    -- where one ends at the address, the next one stands at the place
+    pub past-next : end (getD ms i blank) ≡ d .0 → firstPast d ms ≡ i + 1
+    unfolding soundTable
+    past-next e = go (ltb (i + 1) (length ms)) refl
+      where
+        above : i < firstPast d ms
+        above = past-above (omega arith)
+
+        go : (s : Bool) → ltb (i + 1) (length ms) ≡ s → firstPast d ms ≡ i + 1
+        go true t =
+            let l = ltb-true _ _ t in
+            let o = in-order 0 ms i (i + 1) sound (omega arith) l in
+            let f = sound-at size 0 ms (i + 1) blank sound l .filled in
+            let b = past-below d ms (i + 1) (omega arith) in
+            let a = above in
+            omega arith
+        go false t = omega (arith, above, ltb-false (i + 1) (length ms) t, past-bound d ms)
+
 -- ---- look-up
 
 pub blank-holds : (d : DeviceAddress) → holds blank d ≡ false
@@ -158,7 +176,7 @@ translate-from size low (m ∷ ms) d e = go (leb (end m) (d .0)) refl (holds m d
     p = sound-split size low m ms e
 
     go : (s : Bool) → leb (end m) (d .0) ≡ s → (h : Bool) → holds m d ≡ h → translate ms d ≡ shownBy (getD ms (firstPast d ms) blank) d
-        → pick (holds m d) (At (addressIn m d) (m .rights)) (translate ms d) ≡ pick (holds (getD (m ∷ ms) (firstPast d (m ∷ ms)) blank) d) (At (addressIn (getD (m ∷ ms) (firstPast d (m ∷ ms)) blank) d) (getD (m ∷ ms) (firstPast d (m ∷ ms)) blank .rights)) Nowhere
+        → pick (holds m d) (shown m d) (translate ms d) ≡ pick (holds (getD (m ∷ ms) (firstPast d (m ∷ ms)) blank) d) (shown (getD (m ∷ ms) (firstPast d (m ∷ ms)) blank) d) Nowhere
     go true t h u ih =
         let l = leb-true _ _ t in
         rw (past-suc d m ms l) (pick-false _ _ _ (holds-not m d (λ a b. omega arith)) ∙ ih)
@@ -166,6 +184,11 @@ translate-from size low (m ∷ ms) d e = go (leb (end m) (d .0)) refl (holds m d
     go false t false u ih =
         let g = leb-false _ _ t in
         rw (past-zero d m ms g, u) (pick-false _ _ _ refl ∙ translate-below size (end m) ms (p .2) d g ∙ sym (pick-false _ _ _ refl))
+
+-- past the last record no mapping is shown
+pub shown-end : (ms : List Mapping) (i : ℕ) (d : DeviceAddress) → length ms ≤ i → shownBy (getD ms i blank) d ≡ Nowhere
+unfolding shownBy
+shown-end ms i d h = rw (List·getD-eq-default ms blank {n = i} h) (pick-false _ _ _ (blank-holds d))
 
 -- a look-up asks the mapping at the place
 pub translate-placed : (size : ℕ) (ms : List Mapping) (d : DeviceAddress) → soundTable size ms ≡ true → translate ms d ≡ shownBy (getD ms (firstPast d ms) blank) d

@@ -1,5 +1,5 @@
 -- Look-up, map and unmap by what was found: the places of addresses, and the records there.
-use Prim.Native.Nat.{ℕ, _+_, _-_, _≤_}
+use Prim.Native.Nat.{ℕ, _+_, _-_, _≤_, _<_}
 use native.Mathlib.Omega.{arith}
 use mathlib.Core.Path.{_≡_, refl, sym, _∙_}
 use mathlib.Core.Bool.{Bool, true, false, true≢false}
@@ -17,7 +17,7 @@ use Rattle.address.specs.declared.DeviceAddress.{DeviceAddress}
 use Rattle.iommu.specs.declared.Mapping.{Mapping}
 use Rattle.iommu.specs.declared.Translation.the-variants.{At, Nowhere}
 use Rattle.iommu.specs.declared.Unmap.{Unmap}
-use Rattle.iommu.specs.Table.{blank, holds, addressIn, shownBy, translate, mapped, inRange, soundTable, overlaps, cuts, insert, insertedAt, withoutRun, firstPast, Placed, sticksOut}
+use Rattle.iommu.specs.Table.{blank, holds, shown, shownBy, translate, mapped, inRange, soundTable, overlaps, cuts, insert, insertedAt, withoutRun, firstPast, Placed, sticksOut}
 use Rattle.iommu.specs.Requests.{mapChecks, unmapChecks, endOf, refusedUnmap, removingRun, Removes, Unmaps}
 use Rattle.iommu.proofs.Soundness.{Facts, mapping-facts, sound-at}
 use Rattle.iommu.proofs.Changes.{map-passed}
@@ -36,19 +36,22 @@ module _ (ms : List Mapping) (d : DeviceAddress) (at : ℕ) (held : Bool) (p : P
   unfolding shownBy
   mapped-at size sound = rw (translate-at size sound (getD ms at blank) refl, p .holder) (go (holds (getD ms at blank) d))
     where
-      go : (s : Bool) → mapped (pick s (At (addressIn (getD ms at blank) d) (getD ms at blank .rights)) Nowhere) ≡ s
+      go : (s : Bool) → mapped (pick s (shown (getD ms at blank) d) Nowhere) ≡ s
       go true = unfold pick mapped in refl
       go false = unfold pick mapped in refl
 
 -- what `shown_by` asks of a record in use, and of the blank one
-pub shown-asks : (size : ℕ) (ms : List Mapping) (d : DeviceAddress) (i : ℕ) → soundTable size ms ≡ true → (m : Mapping) → m ≡ getD ms i blank → holds m d ≡ true → inRange size m ≡ true
+pub record-range : (size : ℕ) (ms : List Mapping) (i : ℕ) → soundTable size ms ≡ true → i < length ms → inRange size (getD ms i blank) ≡ true
 unfolding soundTable inRange inDeviceRange inMemoryRange
+record-range size ms i sound h =
+    let f : Facts size (getD ms i blank) = sound-at size 0 ms i blank sound h in
+    and-made _ _ (le-leb _ _ (f .below)) (le-leb _ _ (f .within))
+
+pub shown-asks : (size : ℕ) (ms : List Mapping) (d : DeviceAddress) (i : ℕ) → soundTable size ms ≡ true → (m : Mapping) → m ≡ getD ms i blank → holds m d ≡ true → inRange size m ≡ true
 shown-asks size ms d i sound m e h = go (ltb i (length ms)) refl
   where
-    go : (s : Bool) → ltb i (length ms) ≡ s → (leb (m .device .0 + m .size) deviceLimit and leb (m .memory .0 + m .size) size) ≡ true
-    go true t =
-        let f : Facts size m = rw e (sound-at size 0 ms i blank sound (ltb-true _ _ t)) in
-        and-made _ _ (le-leb _ _ (f .below)) (le-leb _ _ (f .within))
+    go : (s : Bool) → ltb i (length ms) ≡ s → inRange size m ≡ true
+    go true t = rw e (record-range size ms i sound (ltb-true _ _ t))
     go false t = absurd (true≢false (sym h ∙ rw (e, List·getD-eq-default ms blank {n = i} (ltb-false _ _ t)) (blank-holds d)))
 
 -- ---- map

@@ -35,18 +35,26 @@ holds m d = leb (m .device .0) (d .0) and ltb (d .0) (end m)
 unfoldable pub addressIn : Mapping → DeviceAddress → MemoryAddress
 addressIn m d = memoryOffset (m .memory) (d .0 - m .device .0)
 
--- rule 4.1: what one mapping says of a device address: where it lies in memory, and with which rights
-unfoldable pub shownBy : Mapping → DeviceAddress → Translation
-shownBy m d = pick (holds m d) (At (addressIn m d) (m .rights)) Nowhere
+-- rule 4.11: the bytes from a device address to the end of the mapping, and none of one that adjoins
+unfoldable pub leftIn : Mapping → DeviceAddress → ℕ
+leftIn m d = end m - d .0
 
--- rule 4.1: where a device address lies in memory, and with which rights
+-- rules 4.1, 4.11: what a mapping says of a device address that it holds: where it lies in memory, with which rights, and how far it runs on
+abbrev pub shown : Mapping → DeviceAddress → Translation
+shown m d = At (addressIn m d) (m .rights) (leftIn m d)
+
+-- what it says of any device address
+unfoldable pub shownBy : Mapping → DeviceAddress → Translation
+shownBy m d = pick (holds m d) (shown m d) Nowhere
+
+-- rule 4.1: what the mapping says that holds a device address
 unfoldable pub translate : List Mapping → DeviceAddress → Translation
 translate [] d = Nowhere
-translate (m ∷ ms) d = pick (holds m d) (At (addressIn m d) (m .rights)) (translate ms d)
+translate (m ∷ ms) d = pick (holds m d) (shown m d) (translate ms d)
 
 -- whether a mapping holds the address
 unfoldable pub mapped : Translation → Bool
-mapped (At a rights) = true
+mapped (At a rights left) = true
 mapped Nowhere = false
 
 -- ---- what a mapping must satisfy: each is a check of the map request, and all are soundness

@@ -27,9 +27,10 @@ pub struct Mapping {
     pub rights: u32,
 }
 
-// What stands at a device address: where its byte lies in memory and with which rights, or no mapping.
+// What stands at a device address: where its byte lies in memory, with which rights, and how many bytes its mapping shows from there on, or
+// no mapping.
 pub enum Translation {
-    At(MemoryAddress, u32),
+    At(MemoryAddress, u32, u64),
     Nowhere,
 }
 
@@ -233,7 +234,8 @@ pub fn shown_by(m: Mapping, d: DeviceAddress) -> Translation
     ensures { λ r. ⌜ r ≡ shownBy m d ⌝ }
 {
     if holds(m, d) {
-        return Translation::At(MemoryAddress(m.memory.0 + (d.0 - m.device.0)), m.rights);
+        let skip = d.0 - m.device.0;
+        return Translation::At(MemoryAddress(m.memory.0 + skip), m.rights, m.size - skip);
     }
     Translation::Nowhere
 }

@@ -87,6 +87,7 @@ fn contenders(measure: &mut Measure, rivals: &[Rival]) -> Vec<Contender> {
 mod tests {
     use super::*;
     use glintbasket::raw::{Mapping, State};
+    use glintbasket::{Bench, DeviceAddress, DEVICE_LIMIT};
 
     /// What a call answers and leaves, stale records too.
     #[derive(PartialEq)]
@@ -126,6 +127,28 @@ mod tests {
             let plain = left(&measure, measure.call.plain);
             let (name, held) = (measure.call.name, measure.world.held);
             assert!(emulator == plain, "{name} {held}");
+        }
+    }
+
+    /// A look-up leaves nothing, so that its answer is all there is to compare.
+    #[test]
+    fn the_plain_look_up_answers_what_the_emulator_answers() {
+        for held in [0, 1, 2, 3, 64] {
+            let mut world = World::full(held, 1);
+            let (memory, marks) = (world.memory.get_mut(), world.marks.get_mut());
+            let bench = Bench::resume(world.state, &mut world.records, memory, marks);
+            let edges = bench.mappings().iter().flat_map(|m| {
+                let (first, end) = (m.device.0, m.device.0 + m.size);
+                [first - 1, first, first + 5, end - 1, end]
+            });
+            for device in edges.chain([0, DEVICE_LIMIT]).map(DeviceAddress) {
+                let answer = bench.look_up(device).map_err(|error| plain::Refusal {
+                    code: error.refusal.number(),
+                    place: error.place,
+                });
+                let plain = plain::look_up(&world.state, bench.records(), device);
+                assert_eq!(plain, answer, "{device:?} among {held}");
+            }
         }
     }
 }

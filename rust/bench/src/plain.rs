@@ -4,8 +4,8 @@
 
 use glintbasket::raw::{REGISTERS, SLOTS};
 use glintbasket::{
-    DeviceAddress, Mapping, MemoryAddress, Register, Registers, Rights, State, DEVICE_LIMIT,
-    MEMORY_LIMIT, PAGE_SIZE, RECORDS_LIMIT, TRANSFER_LIMIT,
+    DeviceAddress, Location, Mapping, MemoryAddress, Register, Registers, Rights, State,
+    DEVICE_LIMIT, MEMORY_LIMIT, PAGE_SIZE, RECORDS_LIMIT, TRANSFER_LIMIT,
 };
 
 #[derive(Clone, Copy, Debug, PartialEq, Eq)]
@@ -276,11 +276,7 @@ pub fn host_load(
 }
 
 #[inline(never)]
-pub fn look_up(
-    state: &State,
-    records: &[Mapping],
-    device: DeviceAddress,
-) -> Answer<(MemoryAddress, Rights)> {
+pub fn look_up(state: &State, records: &[Mapping], device: DeviceAddress) -> Answer<Location> {
     if !sound(state, records) {
         return refuse(1);
     }
@@ -288,10 +284,11 @@ pub fn look_up(
         return refuse(9);
     }
     match from(&records[..state.count], device).first() {
-        Some(m) if m.device <= device => {
-            let address = m.memory.0 + (device.0 - m.device.0);
-            Ok((MemoryAddress(address), m.rights))
-        }
+        Some(m) if m.device <= device => Ok(Location {
+            address: MemoryAddress(m.memory.0 + (device.0 - m.device.0)),
+            rights: m.rights,
+            left: end_of(m) - device.0,
+        }),
         _ => refuse(14),
     }
 }

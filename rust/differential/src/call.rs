@@ -58,6 +58,7 @@ pub enum Answer {
     Found {
         address: u64,
         rights: u64,
+        left: u64,
     },
     Part {
         kind: u64,

@@ -3,7 +3,7 @@
 
 use std::fmt::Write;
 
-use glint_reference::bench::mark_bytes;
+use glint_reference::bench::{mark_bytes, Mapping, PAGE};
 use glint_reference::bytes::number_at;
 use glintbasket::raw::SLOTS;
 
@@ -14,7 +14,7 @@ const TOP: u64 = 1 << 48;
 const LONGEST: usize = 65_536;
 
 #[rustfmt::skip]
-pub const EVENTS: [&str; 70] = [
+pub const EVENTS: [&str; 74] = [
     "card read of 65,536 bytes accepted",
     "card write of 65,536 bytes accepted",
     "host store of 65,536 bytes accepted",
@@ -85,6 +85,10 @@ pub const EVENTS: [&str; 70] = [
     "card move with other records than at the last call accepted",
     "unmap below mappings that stay, with stale records behind them",
     "look-up among 4,096 mappings accepted",
+    "look-up between a mapping's first byte and its last",
+    "look-up of a mapping's last byte",
+    "look-up of the last byte of a mapping that another adjoins",
+    "look-up with more than a page left in a mapping that another adjoins",
 ];
 
 const FEW_MARKS: usize = 34;
@@ -107,6 +111,10 @@ const JUST_ENOUGH: usize = 66;
 const EXCHANGED: usize = 67;
 const MOVED_DOWN: usize = 68;
 const LOOK_UP_AMONG_ALL: usize = 69;
+const LOOK_UP_WITHIN: usize = 70;
+const LOOK_UP_LAST: usize = 71;
+const LOOK_UP_LAST_ADJOINED: usize = 72;
+const LOOK_UP_LONG_ADJOINED: usize = 73;
 
 pub struct Events {
     counts: [u64; EVENTS.len()],
@@ -314,7 +322,12 @@ impl Events {
                 self.saw(17, done && removed == 0);
                 self.saw(MOVED_DOWN, done && removed > 0 && above && held < records);
             }
-            Call::LookUp { .. } => self.saw(LOOK_UP_AMONG_ALL, done && held == 4096),
+            Call::LookUp { device } => {
+                self.saw(LOOK_UP_AMONG_ALL, done && held == 4096);
+                if let Answer::Found { left, .. } = *answer {
+                    self.found(device, left, trio.state.mappings());
+                }
+            }
             Call::LoadParts => {
                 self.saw(18, done && length == LONGEST);
                 self.saw(19, done && trio.state.registers.len() < before.registers);
@@ -352,6 +365,16 @@ impl Events {
             }
             _ => {}
         }
+    }
+
+    /// Of a look-up that found a mapping with so many bytes left.
+    fn found(&mut self, device: u64, left: u64, mappings: &[Mapping]) {
+        let starts = |address| mappings.iter().any(|m| m.device.0 == address);
+        let adjoined = starts(device + left);
+        self.saw(LOOK_UP_WITHIN, left > 1 && !starts(device));
+        self.saw(LOOK_UP_LAST, left == 1);
+        self.saw(LOOK_UP_LAST_ADJOINED, left == 1 && adjoined);
+        self.saw(LOOK_UP_LONG_ADJOINED, left > PAGE && adjoined);
     }
 
     fn saw(&mut self, event: usize, happened: bool) {

@@ -63,6 +63,31 @@ fn a_wrong_result_is_found() {
     assert!(difference.shortened().len() <= 3, "{}", difference.report());
 }
 
+/// As if a mapping ran on into the next one where that adjoins.
+#[test]
+fn bytes_left_beyond_the_mapping_are_found() {
+    let difference = first_difference(|call, answer, kept| match (call, answer) {
+        (
+            Call::LookUp { device },
+            Answer::Found {
+                address,
+                rights,
+                left,
+            },
+        ) => {
+            let end = device + left;
+            let next = kept.mappings().iter().find(|m| m.device.0 == end);
+            Answer::Found {
+                address,
+                rights,
+                left: left + next.map_or(0, |m| m.size),
+            }
+        }
+        (_, other) => other,
+    });
+    assert!(difference.shortened().len() <= 3, "{}", difference.report());
+}
+
 /// Records past the count mean nothing, and still no call may change one.
 #[test]
 fn a_stale_record_that_is_cleared_is_found() {

@@ -38,6 +38,8 @@ pub struct Location {
     pub address: MemoryAddress,
     /// The rights of the mapping that holds it.
     pub rights: Rights,
+    /// How far that mapping runs on: the bytes from the device address to its end, at least 1. It ends there also where another adjoins.
+    pub left: u64,
 }
 
 /// The host side of VFIO, with one device: memory with a mark for each byte that somebody wrote, a table of DMA mappings, and the
@@ -196,15 +198,39 @@ impl<'m> Bench<'m> {
         .answer()
     }
 
-    /// Look-up: where a device address lies in memory.
+    /// Look-up: where a device address lies in memory, and how far its mapping runs on from there.
     ///
     /// Refused: `BadBench`, `Range`, `Unmapped`.
+    ///
+    /// A range of device addresses, run by run:
+    ///
+    /// ```
+    /// use glintbasket::{DeviceAddress, Error, MemoryAddress, OwnedBench, Rights};
+    ///
+    /// fn main() -> Result<(), Error> {
+    ///     let mut bench = OwnedBench::with_memory(vec![0; 3 * 4096])?;
+    ///     bench.map(MemoryAddress(4096), DeviceAddress(0), 8192, Rights::READ)?;
+    ///     bench.map(MemoryAddress(0), DeviceAddress(8192), 4096, Rights::READ)?;
+    ///
+    ///     let (mut device, end) = (4100, 10000);
+    ///     let mut runs = Vec::new();
+    ///     while device < end {
+    ///         let location = bench.look_up(DeviceAddress(device))?;
+    ///         let length = location.left.min(end - device);
+    ///         runs.push((location.address.0, length));
+    ///         device += length;
+    ///     }
+    ///     assert_eq!(runs, [(8196, 4092), (0, 1808)]);
+    ///     Ok(())
+    /// }
+    /// ```
     pub fn look_up(&self, device: DeviceAddress) -> Result<Location> {
         let found = raw::look_up(&self.state, &self.records, device);
         found.outcome.answer()?;
         Ok(Location {
             address: found.address,
             rights: found.rights,
+            left: found.left,
         })
     }
 

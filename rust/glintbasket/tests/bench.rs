@@ -274,19 +274,33 @@ fn debug_tells_the_lengths_and_not_the_bytes() {
 // ---- look-up
 
 #[test]
-fn look_up_gives_address_and_rights() {
+fn look_up_gives_address_rights_and_bytes_left() {
     let mut bench = bench(2);
     let both = Rights::READ | Rights::WRITE;
     let top = DEVICE_LIMIT - PAGE;
     bench
         .map(MemoryAddress(PAGE), DeviceAddress(top), PAGE, both)
         .unwrap();
-    let found = bench.look_up(DeviceAddress(DEVICE_LIMIT - 1));
+    let found = bench.look_up(DeviceAddress(top + 7));
     let location = Location {
-        address: MemoryAddress(2 * PAGE - 1),
+        address: MemoryAddress(PAGE + 7),
         rights: both,
+        left: PAGE - 7,
     };
     assert_eq!(found, Ok(location));
+}
+
+/// Rule 4.11: a mapping ends where the next one adjoins it, also where memory goes on.
+#[test]
+fn look_up_counts_to_the_end_of_the_mapping_alone() {
+    let mut bench = bench(3);
+    for (address, size) in [(0, 2 * PAGE), (2 * PAGE, PAGE)] {
+        let (memory, device) = (MemoryAddress(address), DeviceAddress(PAGE + address));
+        bench.map(memory, device, size, Rights::READ).unwrap();
+    }
+    let left = |device| bench.look_up(DeviceAddress(device)).unwrap().left;
+    let devices = [PAGE, PAGE + 1, 3 * PAGE - 1, 3 * PAGE, 4 * PAGE - 1];
+    assert_eq!(devices.map(left), [2 * PAGE, 2 * PAGE - 1, 1, PAGE, 1]);
 }
 
 #[test]

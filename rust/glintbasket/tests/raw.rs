@@ -30,6 +30,16 @@ fn refused(code: u32, place: u64) -> Outcome {
     }
 }
 
+/// A look-up that is refused: all else is 0.
+fn not_found(code: u32) -> Found {
+    Found {
+        outcome: refused(code, 0),
+        address: MemoryAddress(0),
+        rights: Rights(0),
+        left: 0,
+    }
+}
+
 fn map_request(memory: u64, device: u64, size: u64, rights: u32) -> [u8; 32] {
     let mut buffer = [0; 32];
     buffer[..4].copy_from_slice(&32u32.to_le_bytes());
@@ -61,17 +71,17 @@ fn memory_and_the_table_cross() {
     assert_eq!(records[1], Mapping::default());
 
     let found = look_up(&state, &records, DeviceAddress(0x10004));
+    let expected = Found {
+        outcome: done(0),
+        address: MemoryAddress(4100),
+        rights: Rights(3),
+        left: 4092,
+    };
+    assert_eq!(found, expected);
+    assert_eq!(look_up(&state, &records, DeviceAddress(0)), not_found(14));
     assert_eq!(
-        (found.outcome, found.address, found.rights),
-        (done(0), MemoryAddress(4100), Rights(3))
-    );
-    assert_eq!(
-        look_up(&state, &records, DeviceAddress(0)).outcome,
-        refused(14, 0)
-    );
-    assert_eq!(
-        look_up(&state, &[], DeviceAddress(0x10004)).outcome,
-        refused(1, 0),
+        look_up(&state, &[], DeviceAddress(0x10004)),
+        not_found(1),
         "fewer records than are in use"
     );
 

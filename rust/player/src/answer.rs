@@ -29,7 +29,7 @@ impl fmt::Display for Answer {
             Answer::Filled(result, bytes) => write!(f, "ok {result} : {}", Pairs(bytes)),
             Answer::Found(location) => {
                 let (address, rights) = (location.address.0, location.rights.0);
-                write!(f, "ok {address} rights {rights}")
+                write!(f, "ok {address} rights {rights} left {}", location.left)
             }
             Answer::Part {
                 kind,
@@ -91,8 +91,10 @@ mod tests {
         let location = Location {
             address: MemoryAddress(0x1010),
             rights: Rights(3),
+            left: 0xff0,
         };
-        assert_eq!(Answer::Found(location).to_string(), "ok 4112 rights 3");
+        let text = "ok 4112 rights 3 left 4080";
+        assert_eq!(Answer::Found(location).to_string(), text);
     }
 
     #[test]

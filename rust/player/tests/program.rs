@@ -110,7 +110,7 @@ request 7 100 -
 
 const EVERY_OUTCOME_PLAYED: &str = "\
 3: ok 0
-4: ok 4112 rights 3
+4: ok 4112 rights 3 left 4080
 5: ok 0
 6: ok 0 : 68 69
 7: ok 0 : -

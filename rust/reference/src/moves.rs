@@ -11,18 +11,35 @@ fn holder(state: &State, address: u128) -> Option<&Mapping> {
     state.mappings().iter().find(|m| m.holds(address))
 }
 
+/// How far a device address that a mapping holds lies from its first one: less than its size.
+fn distance(mapping: &Mapping, address: u128) -> u64 {
+    (address - mapping.device.whole()) as u64
+}
+
 /// The memory address that a mapping shows at a device address that it holds.
 fn shown(mapping: &Mapping, address: u128) -> MemoryAddress {
-    let distance = (address - mapping.device.whole()) as u64; // below the mapping's size
-    MemoryAddress(mapping.memory.0 + distance)
+    MemoryAddress(mapping.memory.0 + distance(mapping, address))
+}
+
+/// What a look-up gives.
+#[derive(Clone, Copy, Debug, PartialEq, Eq)]
+pub struct Found {
+    pub memory: MemoryAddress,
+    pub rights: u64,
+    /// How many device addresses the mapping holds from this one on, itself among them.
+    pub left: u64,
 }
 
 /// Takes no memory and marks, asks for no right, and gives 14 at 0.
-pub fn look_up(state: &State, device: DeviceAddress) -> Answer<(MemoryAddress, u64)> {
+pub fn look_up(state: &State, device: DeviceAddress) -> Answer<Found> {
     state.check_sound()?;
     refuse_if(device.whole() >= DEVICE_LIMIT, Refusal::Range)?;
     let mapping = holder(state, device.whole()).ok_or(Refusal::Unmapped)?;
-    Ok((shown(mapping, device.whole()), mapping.rights))
+    Ok(Found {
+        memory: shown(mapping, device.whole()),
+        rights: mapping.rights,
+        left: mapping.size - distance(mapping, device.whole()),
+    })
 }
 
 /// Where each byte of a card move lies in memory, or the fault of the first offset that has one:
@@ -241,17 +258,37 @@ mod tests {
         Err(Refused { refusal, place })
     }
 
+    fn found(memory: u64, rights: u64, left: u64) -> Answer<Found> {
+        Ok(Found {
+            memory: MemoryAddress(memory),
+            rights,
+            left,
+        })
+    }
+
     /// Rule 4.1: rights as a number; no right is asked for.
     #[test]
     fn look_up_gives_memory_address_and_rights() {
         let state = bench(8_192, &[(4_096, 0, 4_096, 2), (0, LIMIT - 4_096, 4_096, 1)]).state;
         let at = |device| look_up(&state, DeviceAddress(device));
-        assert_eq!(at(0), Ok((MemoryAddress(4_096), 2)));
-        assert_eq!(at(4_095), Ok((MemoryAddress(8_191), 2)));
+        assert_eq!(at(0), found(4_096, 2, 4_096));
+        assert_eq!(at(4_095), found(8_191, 2, 1));
         assert_eq!(at(4_096), refused(Refusal::Unmapped, 0));
-        assert_eq!(at(LIMIT - 1), Ok((MemoryAddress(4_095), 1)));
+        assert_eq!(at(LIMIT - 1), found(4_095, 1, 1));
         assert_eq!(at(LIMIT), refused(Refusal::Range, 0));
         assert_eq!(at(u64::MAX), refused(Refusal::Range, 0));
+    }
+
+    /// Rule 4.11: to the end of its own mapping, though the next one adjoins and memory goes on.
+    #[test]
+    fn look_up_says_how_far_the_mapping_runs_on() {
+        let state = bench(12_288, &[(0, 4_096, 8_192, 3), (8_192, 12_288, 4_096, 3)]).state;
+        let at = |device| look_up(&state, DeviceAddress(device));
+        assert_eq!(at(4_096), found(0, 3, 8_192));
+        assert_eq!(at(8_191), found(4_095, 3, 4_097));
+        assert_eq!(at(12_287), found(8_191, 3, 1));
+        assert_eq!(at(12_288), found(8_192, 3, 4_096));
+        assert_eq!(at(16_383), found(12_287, 3, 1));
     }
 
     /// Rule 7.12: 16 at 1.

@@ -59,7 +59,7 @@ const EVERY_OUTCOME_PRINTED: &str = "\
 5: ok 0 : -
 6: refused 16 Unwritten at 2
 7: ok 0 : 61
-8: ok 4095 rights 3
+8: ok 4095 rights 3 left 1
 9: ok 0
 10: refused 16 Unwritten at 0
 11: ok 0

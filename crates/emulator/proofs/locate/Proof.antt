@@ -29,7 +29,7 @@ enum-told c = search needs
 
 returns-3 : tie.Need-returns-3
 unfolding machineOf
-returns-3 c = λ s rs e h m. let ok = not-false _ (c .before .before .before .before .before .before .if1 .left) in look-up-found s rs (sym e ∙ ok) m _ (c .before .before .before .before .if2 .left) _ _ (sym (h ok) ∙ sym (c .before .before .before .shown-by .ensures) ∙ c .before .found .given .1)
+returns-3 c = λ s rs e h m. let ok = not-false _ (c .before .before .before .before .before .before .if1 .left) in look-up-found s rs (sym e ∙ ok) m _ (c .before .before .before .before .if2 .left) _ _ _ (sym (h ok) ∙ sym (c .before .before .before .shown-by .ensures) ∙ c .before .found .given .1)
 
 returns-4 : tie.Need-returns-4
 unfolding machineOf

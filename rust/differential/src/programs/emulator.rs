@@ -78,9 +78,11 @@ fn found(found: &Found) -> Answer {
         Answer::Done(0) => Answer::Found {
             address: found.address.0,
             rights: u64::from(found.rights.0),
+            left: found.left,
         },
         other => {
-            assert_eq!((found.address.0, found.rights.0), (0, 0), "{found:?}");
+            let numbers = (found.address.0, found.rights.0, found.left);
+            assert_eq!(numbers, (0, 0, 0), "{found:?}");
             other
         }
     }

@@ -37,9 +37,10 @@ fn with_all_records(
         }
         Call::LookUp { device } => {
             return match moves::look_up(state, DeviceAddress(device)) {
-                Ok((address, rights)) => Answer::Found {
-                    address: address.0,
-                    rights,
+                Ok(found) => Answer::Found {
+                    address: found.memory.0,
+                    rights: found.rights,
+                    left: found.left,
                 },
                 Err(refused) => refusal(refused),
             }

@@ -94,7 +94,7 @@ pub struct Outcome {
     pub result: u64,
 }
 
-/// Look-up's answer.
+/// Look-up's answer. Where it is refused, all else is 0.
 #[repr(C)]
 #[derive(Clone, Copy, Debug, PartialEq, Eq)]
 pub struct Found {
@@ -104,6 +104,8 @@ pub struct Found {
     pub address: MemoryAddress,
     /// The rights of the mapping that holds the device address.
     pub rights: Rights,
+    /// The bytes from the device address to the end of that mapping.
+    pub left: u64,
 }
 
 /// A step's answer: a refusal; the end of the stream; or a part.
@@ -177,6 +179,9 @@ const _: () = {
     assert!(offset_of!(State, running) == 478);
     assert!(offset_of!(State, words) == 479);
     assert!(size_of::<Outcome>() == 24);
-    assert!(size_of::<Found>() == 40);
+    assert!(size_of::<Found>() == 48);
+    assert!(offset_of!(Found, address) == 24);
+    assert!(offset_of!(Found, rights) == 32);
+    assert!(offset_of!(Found, left) == 40);
     assert!(size_of::<PartStep>() == 56);
 };

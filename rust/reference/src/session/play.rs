@@ -8,7 +8,7 @@ use crate::bench::{
     fresh_start, mark_bytes, start, stop, DeviceAddress, Mapping, MemoryAddress, State,
 };
 use crate::check_save::{check_save, SaveCheck};
-use crate::moves::{card_read, card_write, forget, host_load, host_store, look_up};
+use crate::moves::{card_read, card_write, forget, host_load, host_store, look_up, Found};
 use crate::parts::{load_parts, save_parts, step};
 use crate::registers::{read_register, set_register};
 use crate::requests::{listed, request};
@@ -64,7 +64,11 @@ impl Player {
                 buffer,
             } => self.request(*target, *number, buffer),
             Call::LookUp { device } => match look_up(&self.state, DeviceAddress(*device)) {
-                Ok((memory, rights)) => format!("ok {} rights {rights}", memory.0),
+                Ok(Found {
+                    memory,
+                    rights,
+                    left,
+                }) => format!("ok {} rights {rights} left {left}", memory.0),
                 Err(refused) => refused.to_string(),
             },
             Call::CardRead { device, length } => {
