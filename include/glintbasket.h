@@ -187,7 +187,8 @@ typedef struct glint_found {
     glint_outcome outcome;
     glint_memory_address address;
     uint32_t rights;
-    uint64_t left; /* bytes from the device address to the end of its mapping, at least 1; never beyond it, also where another adjoins */
+    uint64_t left;   /* bytes from the device address to the end of its mapping, at least 1; never beyond it, also where another adjoins */
+    uint64_t probes; /* how many mappings the search looked at, at most 13; with GLINT_UNMAPPED, too, beside the place, which is 0 */
 } glint_found;
 
 /* One step over a stream: refused; or the end; or a part. */
@@ -219,10 +220,11 @@ GLINT_ASSERT(offsetof(glint_state, registers) == 16);
 GLINT_ASSERT(offsetof(glint_state, running) == 478);
 GLINT_ASSERT(offsetof(glint_state, words) == 479);
 GLINT_ASSERT(sizeof(glint_outcome) == 24);
-GLINT_ASSERT(sizeof(glint_found) == 48);
+GLINT_ASSERT(sizeof(glint_found) == 56);
 GLINT_ASSERT(offsetof(glint_found, address) == 24);
 GLINT_ASSERT(offsetof(glint_found, rights) == 32);
 GLINT_ASSERT(offsetof(glint_found, left) == 40);
+GLINT_ASSERT(offsetof(glint_found, probes) == 48);
 GLINT_ASSERT(sizeof(glint_part_step) == 56);
 
 /* ---- the library's functions */
@@ -252,7 +254,10 @@ glint_outcome glint_request(glint_state *state, glint_mapping *records, size_t r
                             size_t memory_length, const uint8_t *marks, size_t marks_length, uint32_t target, uint32_t number,
                             uint8_t *buffer, size_t buffer_length);
 
-/* Look-up: the memory address and the rights at one device address, and how far its mapping runs on from there. Refused: 9, 14. */
+/*
+ * Look-up: the memory address and the rights at one device address, how far its mapping runs on from there, and how many mappings were
+ * looked at. Refused: 9; 14, which has the number of mappings looked at as well.
+ */
 glint_found glint_look_up(const glint_state *state, const glint_mapping *records, size_t records_length, uint64_t device);
 
 /* Card read: fills `buffer` from the device address on. Refused: 13, 9, then by the first faulty offset 14, 15, 16. */
@@ -603,7 +608,7 @@ static inline glint_outcome glint_bench_reset(glint_bench *bench)
 static inline glint_found glint_bench_look_up(const glint_bench *bench, glint_device_address device)
 {
     if (glint_bench_has_null_records(bench)) {
-        glint_found refused = {glint_null_refusal(), {0}, 0, 0};
+        glint_found refused = {glint_null_refusal(), {0}, 0, 0, 0};
         return refused;
     }
     return glint_look_up(&bench->state, glint_records(bench), bench->records_length, device.value);

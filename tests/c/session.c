@@ -207,23 +207,24 @@ static glint_outcome device_read(uint64_t iova, size_t length)
     return outcome;
 }
 
-// A look-up's whole answer: of one that is refused, all but the refusal is 0.
+// A look-up's whole answer: of one that is refused, all but the refusal and, with 14, the probes is 0.
 static void check_look_up(uint64_t iova, glint_found want, int line)
 {
     glint_found is = glint_bench_look_up(&bench, glint_device(iova));
     check_outcome(is.outcome, want.outcome, line);
-    if (is.address.value == want.address.value && is.rights == want.rights && is.left == want.left)
+    if (is.address.value == want.address.value && is.rights == want.rights && is.left == want.left && is.probes == want.probes)
         return;
-    fprintf(stderr, "session.c:%d: address %llu rights %u left %llu, not address %llu rights %u left %llu\n", line,
-            (unsigned long long)is.address.value, is.rights, (unsigned long long)is.left, (unsigned long long)want.address.value,
-            want.rights, (unsigned long long)want.left);
+    fprintf(stderr, "session.c:%d: look-up of %llx: address %llu rights %u left %llu probes %llu, not %llu, %u, %llu and %llu\n", line,
+            (unsigned long long)iova, (unsigned long long)is.address.value, is.rights, (unsigned long long)is.left,
+            (unsigned long long)is.probes, (unsigned long long)want.address.value, want.rights, (unsigned long long)want.left,
+            (unsigned long long)want.probes);
     faults++;
 }
 
-#define CHECK_FOUND(iova, at, right, rest)                                                                                              \
-    check_look_up((iova), (glint_found){.address = {at}, .rights = (right), .left = (rest)}, __LINE__)
-#define CHECK_NOT_FOUND(iova, number)                                                                                                   \
-    check_look_up((iova), (glint_found){.outcome = {.refused = true, .code = (number)}}, __LINE__)
+#define CHECK_FOUND(iova, at, right, rest, looked)                                                                                      \
+    check_look_up((iova), (glint_found){.address = {at}, .rights = (right), .left = (rest), .probes = (looked)}, __LINE__)
+#define CHECK_NOT_FOUND(iova, number, looked)                                                                                           \
+    check_look_up((iova), (glint_found){.outcome = {.refused = true, .code = (number)}, .probes = (looked)}, __LINE__)
 
 static bool marked(size_t from, size_t to, bool mark)
 {
@@ -292,7 +293,7 @@ static void bad_bench(void)
     bench.state.count = RECORDS + 1;
     CHECK_REFUSED(glint_bench_stop(&bench), GLINT_BAD_BENCH, 0);
     CHECK(bench.state.count == RECORDS + 1);
-    CHECK_NOT_FOUND(0, GLINT_BAD_BENCH);
+    CHECK_NOT_FOUND(0, GLINT_BAD_BENCH, 0);
     bench.state = sound;
     bench.state.registers.slots[5].set = 0;
     CHECK_REFUSED(glint_bench_save_parts(&bench, fill(&buffer, 64), 64), GLINT_BAD_BENCH, 0);
@@ -348,9 +349,9 @@ static void map_and_look_up(void)
     CHECK(bench.records[0].size == PAGE);
     CHECK(bench.records[0].rights == 3);
 
-    CHECK_FOUND(top + 7, PAGE + 7, 3, PAGE - 7);
-    CHECK_NOT_FOUND(top - 1, GLINT_UNMAPPED);
-    CHECK_NOT_FOUND(GLINT_DEVICE_LIMIT, GLINT_RANGE);
+    CHECK_FOUND(top + 7, PAGE + 7, 3, PAGE - 7, 1);
+    CHECK_NOT_FOUND(top - 1, GLINT_UNMAPPED, 1);
+    CHECK_NOT_FOUND(GLINT_DEVICE_LIMIT, GLINT_RANGE, 0);
 
     glint_state before = bench.state;
     CHECK_REFUSED(map(0, 0, PAGE, 0), GLINT_FLAGS, 0);
@@ -370,20 +371,44 @@ static void bytes_left(void)
     fresh_bench();
     CHECK_DONE(map(0, PAGE, 2 * PAGE, GLINT_READ), 0);
     CHECK_DONE(map(2 * PAGE, 3 * PAGE, PAGE, GLINT_READ), 0);
-    CHECK_NOT_FOUND(PAGE - 1, GLINT_UNMAPPED);
-    CHECK_FOUND(PAGE, 0, GLINT_READ, 2 * PAGE);
-    CHECK_FOUND(PAGE + 100, 100, GLINT_READ, 2 * PAGE - 100);
-    CHECK_FOUND(2 * PAGE, PAGE, GLINT_READ, PAGE);
-    CHECK_FOUND(3 * PAGE - 1, 2 * PAGE - 1, GLINT_READ, 1);
-    CHECK_FOUND(3 * PAGE, 2 * PAGE, GLINT_READ, PAGE);
-    CHECK_FOUND(4 * PAGE - 1, 3 * PAGE - 1, GLINT_READ, 1);
-    CHECK_NOT_FOUND(4 * PAGE, GLINT_UNMAPPED);
+    CHECK_NOT_FOUND(PAGE - 1, GLINT_UNMAPPED, 2);
+    CHECK_FOUND(PAGE, 0, GLINT_READ, 2 * PAGE, 2);
+    CHECK_FOUND(PAGE + 100, 100, GLINT_READ, 2 * PAGE - 100, 2);
+    CHECK_FOUND(2 * PAGE, PAGE, GLINT_READ, PAGE, 2);
+    CHECK_FOUND(3 * PAGE - 1, 2 * PAGE - 1, GLINT_READ, 1, 2);
+    CHECK_FOUND(3 * PAGE, 2 * PAGE, GLINT_READ, PAGE, 1);
+    CHECK_FOUND(4 * PAGE - 1, 3 * PAGE - 1, GLINT_READ, 1, 1);
+    CHECK_NOT_FOUND(4 * PAGE, GLINT_UNMAPPED, 1);
 }
 
 // A map of a page of its own, by the page of its device address.
 static glint_outcome map_page(uint64_t page)
 {
     return map(0, page * PAGE, PAGE, GLINT_READ);
+}
+
+// How many mappings are looked at, by the number held: below all of them, and above all of them. Of 64 these are the places 32 16 8 4 2 1 0
+// and 32 48 56 60 62 63. The one in the middle is looked at first.
+static void probes(void)
+{
+    static const struct {
+        size_t held;
+        uint64_t below, above;
+    } cases[] = {{0, 0, 0}, {1, 1, 1}, {2, 2, 1}, {3, 2, 2}, {63, 6, 6}, {64, 7, 6}, {65, 7, 6}, {4095, 12, 12}, {4096, 13, 12}};
+    for (size_t i = 0; i < GLINT_COUNT(cases); i++) {
+        const size_t held = cases[i].held;
+        CHECK_DONE(start_with(GLINT_RECORDS_LIMIT), 0);
+        for (size_t page = 1; page <= held; page++)
+            CHECK_DONE(map_page(page), 0);
+        CHECK_NOT_FOUND(0, GLINT_UNMAPPED, cases[i].below);
+        CHECK_NOT_FOUND((held + 1) * PAGE, GLINT_UNMAPPED, cases[i].above);
+        CHECK_NOT_FOUND(GLINT_DEVICE_LIMIT, GLINT_RANGE, 0);
+        if (held == 0)
+            continue;
+        CHECK_FOUND(PAGE, 0, GLINT_READ, PAGE, cases[i].below);
+        CHECK_FOUND(held * PAGE, 0, GLINT_READ, PAGE, cases[i].above);
+        CHECK_FOUND((held / 2 + 1) * PAGE, 0, GLINT_READ, PAGE, 1);
+    }
 }
 
 static void table_full(void)
@@ -414,8 +439,8 @@ static void lent_records(void)
         CHECK(bench.state.count == length && stale(length, GLINT_RECORDS_LIMIT + 1));
         for (size_t page = 0; page < length; page++)
             CHECK(is_page(&bench.records[page], page + 1));
-        if (length > 0)
-            CHECK_FOUND(length * PAGE, 0, GLINT_READ, PAGE);
+        if (length > 0) // the one in the middle, which is looked at first
+            CHECK_FOUND((length / 2 + 1) * PAGE, 0, GLINT_READ, PAGE, 1);
     }
     CHECK_REFUSED(start_with(GLINT_RECORDS_LIMIT + 1), GLINT_BAD_BENCH, 0);
     fresh_bench();
@@ -437,7 +462,7 @@ static void stale_records(void)
     CHECK(is_page(&bench.records[2], 3) && is_page(&bench.records[3], 4));
 
     // What the stale ones hold decides nothing: page 3 is free, and others may write there.
-    CHECK_NOT_FOUND(3 * PAGE, GLINT_UNMAPPED);
+    CHECK_NOT_FOUND(3 * PAGE, GLINT_UNMAPPED, 2);
     memset(&bench.records[2], 0xff, 2 * sizeof(glint_mapping));
     CHECK_DONE(map_page(3), 0);
     CHECK(is_page(&bench.records[1], 3) && is_page(&bench.records[2], 4));
@@ -462,9 +487,9 @@ static void exchanged_records(void)
     // Too few for those in use.
     bench.records_length = 3;
     CHECK_REFUSED(map_page(5), GLINT_BAD_BENCH, 0);
-    CHECK_NOT_FOUND(PAGE, GLINT_BAD_BENCH);
+    CHECK_NOT_FOUND(PAGE, GLINT_BAD_BENCH, 0);
     bench.records_length = 4;
-    CHECK_FOUND(PAGE, 0, GLINT_READ, PAGE);
+    CHECK_FOUND(PAGE, 0, GLINT_READ, PAGE, 3);
     // A record in use that is not sound; a stale one may be anything.
     more[3].rights = 4;
     CHECK_REFUSED(glint_bench_start(&bench), GLINT_BAD_BENCH, 0);
@@ -765,7 +790,7 @@ static void null_pointers(void)
     bench.records = NULL;
     CHECK_REFUSED(glint_bench_power_on(&bench), GLINT_NULL_POINTER, 0);
     CHECK_REFUSED(glint_bench_reset(&bench), GLINT_NULL_POINTER, 0);
-    CHECK_NOT_FOUND(0, GLINT_NULL_POINTER);
+    CHECK_NOT_FOUND(0, GLINT_NULL_POINTER, 0);
     CHECK_REFUSED(device_read(0, 1), GLINT_NULL_POINTER, 0);
     CHECK_REFUSED(glint_bench_set_register(&bench, GLINT_DEVICE_STATUS, 0, "x", 1), GLINT_NULL_POINTER, 0);
     CHECK_REFUSED(glint_bench_read_register(&bench, GLINT_DEVICE_STATUS, 0, fill(&buffer, 1), 1), GLINT_NULL_POINTER, 0);
@@ -893,7 +918,7 @@ int main(void)
         TEST(unmap_ranges), TEST(device_reads),  TEST(device_writes), TEST(host_loads), TEST(device_info),   TEST(region_info),
         TEST(irq_info),     TEST(registers),     TEST(save_and_load), TEST(steps),      TEST(no_memory),     TEST(refusal_names),
         TEST(null_pointers), TEST(refused_info), TEST(flag_bytes), TEST(second_card), TEST(packed_marks),    TEST(lent_records),
-        TEST(stale_records), TEST(exchanged_records), TEST(bytes_left),
+        TEST(stale_records), TEST(exchanged_records), TEST(bytes_left), TEST(probes),
     };
     const unsigned count = sizeof tests / sizeof *tests;
     unsigned failed = 0;

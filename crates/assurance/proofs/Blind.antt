@@ -32,7 +32,7 @@ use Rattle.dma.specs.Transfers.{readFault, transferChecks, deviceReadChecks, lo
 use Rattle.emulator.specs.Machine.{Machine, Emulator, Given, memoryAlone, stateAlone, both, usable, lendable, asNoted}
 use Rattle.emulator.specs.Effect.{Effect, Outcome, effectOf, outcomeOf, writing}
 use Rattle.emulator.specs.Requests.{Request, getApiVersion, checkExtension, getIommuInfo, mapDma, unmapDma, getInfo, getRegionInfo, getIrqInfo, resetDevice, Entry, requests, entryIn, identify, inFields, inputOf, requestedMapping, requestedStart, requestedSize, requestedIndex, argszChecks, listedChecks, sizeChecks, requestChecks, listedEffect, requestEffect}
-use Rattle.emulator.specs.Calls.{Call, powerOn, request, lookUp, deviceRead, deviceWrite, hostWrite, hostRead, invalidate, setRegister, readRegister, loadParts, saveParts, stop, start, given, input, ownChecks, checks, front, effect, outcome}
+use Rattle.emulator.specs.Calls.{Call, powerOn, request, lookUp, deviceRead, deviceWrite, hostWrite, hostRead, invalidate, setRegister, readRegister, loadParts, saveParts, stop, start, given, input, ownChecks, checks, front, effect, probesOf, outcome}
 use Rattle.assurance.specs.Overwrite.{overwrite, mask}
 use Rattle.assurance.specs.Runs.{written}
 use Rattle.assurance.proofs.Overwrite.{length-overwrite, length-mask, mask-all, getD-kept, part-kept, keeps, field-kept}
@@ -43,12 +43,12 @@ seen e =
     record { memory = record { bytes = mask (written (e .memory)) (e .memory .bytes); shadow = e .memory .shadow }; room = e .room; machine = e .machine }
 
 -- a refused call has no effect, so effects need only agree where the checks pass
-outcome-eq : (u v : Verdict) (e f : Effect) (k : Machine) → u ≡ v → (u ≡ Pass → e ≡ f) → outcomeOf u e k ≡ outcomeOf v f k
+outcome-eq : (u v : Verdict) (e f : Effect) (k : Machine) (n : ℕ) → u ≡ v → (u ≡ Pass → e ≡ f) → outcomeOf u e k n ≡ outcomeOf v f k n
 unfolding outcomeOf effectOf settle
-outcome-eq u v e f k p h = go u refl ∙ ap (λ (x : Verdict). outcomeOf x f k) p
+outcome-eq u v e f k n p h = go u refl ∙ ap (λ (x : Verdict). outcomeOf x f k n) p
   where
-    go : (t : Verdict) → u ≡ t → outcomeOf t e k ≡ outcomeOf t f k
-    go Pass q = ap (λ (x : Effect). outcomeOf Pass x k) (h q)
+    go : (t : Verdict) → u ≡ t → outcomeOf t e k n ≡ outcomeOf t f k n
+    go Pass q = ap (λ (x : Effect). outcomeOf Pass x k n) (h q)
     go (Fail code place) q = refl
 
 -- ---- refusal 1 goes by lengths, marks and state
@@ -253,5 +253,5 @@ effect-blind start buf e ok = refl
 pub blind : (c : Call) (buf : List ℕ) (e : Emulator) → outcome c (mask (input c) buf) (seen e) ≡ outcome c buf e
 unfolding outcome checks seen
 blind c buf e =
-    outcome-eq _ _ _ _ (e .machine) (checks-blind c buf e)
+    outcome-eq _ _ _ _ (e .machine) (probesOf c (e .machine .mappings)) (checks-blind c buf e)
     (λ ok. effect-blind c buf e (then-pass _ _ (sym (checks-blind c buf e) ∙ ok) .1))

@@ -34,7 +34,7 @@ use Rattle.registers.specs.declared.Card.{Card}
 use Rattle.emulator.specs.Machine.{Machine, Emulator, both, usable, lendable, sound, soundMappings, poweredOn, withMappings, withRegisters, withRunning}
 use Rattle.emulator.specs.Effect.{Result, value, Effect, Outcome, effectOf, outcomeOf, after, filled}
 use Rattle.emulator.specs.Requests.{Request, getApiVersion, checkExtension, getIommuInfo, mapDma, unmapDma, getInfo, getRegionInfo, getIrqInfo, resetDevice, Entry, identify, requestedMapping, requestedStart, requestedSize, listedChecks, sizeChecks, requestChecks, listedEffect, requestEffect}
-use Rattle.emulator.specs.Calls.{Call, powerOn, request, lookUp, deviceRead, deviceWrite, hostWrite, hostRead, invalidate, setRegister, readRegister, loadParts, saveParts, stop, start, given, input, ownChecks, checks, effect, outcome}
+use Rattle.emulator.specs.Calls.{Call, powerOn, request, lookUp, deviceRead, deviceWrite, hostWrite, hostRead, invalidate, setRegister, readRegister, loadParts, saveParts, stop, start, given, input, ownChecks, checks, effect, probesOf, outcome}
 use Rattle.assurance.specs.Overwrite.{mask}
 use Rattle.assurance.specs.Runs.{Ask, Others, Event, written, disturbed, lentTo, event, turn, run}
 use Rattle.assurance.specs.Ledger.{Bytes, Ledger, empty, ledgerAfterRequest, ledgerAfterListed, ledgerAfter, inputBytes, fed, heldAt, FilledBy, Owed, OwedIf, Follows}
@@ -197,7 +197,7 @@ lent-outcome w q e =
 
 -- one call, by its verdict
 call-follows : (q : Ask) (l : Ledger) (e : Emulator) (lent : List ℕ) → length lent ≡ length (q .buffer) → Books l e
-    → (v : Verdict) → checks (q .call) (inputBytes q) e ≡ v → (o : Outcome) → o ≡ outcomeOf v (effect (q .call) (inputBytes q) e) (e .machine)
+    → (v : Verdict) → checks (q .call) (inputBytes q) e ≡ v → (o : Outcome) → o ≡ outcomeOf v (effect (q .call) (inputBytes q) e) (e .machine) (probesOf (q .call) (e .machine .mappings))
     → OwedIf (o .answer) l (q .call) (length (q .buffer)) (filled (o .effect .pieces) lent) × Books (fed (o .answer) q l) (after (o .effect) e)
 unfolding checks outcomeOf effectOf settle OwedIf fed after edited inputBytes
 call-follows q l e lent p h Pass ok o is =

@@ -19,8 +19,8 @@ use Rattle.parts.specs.Save.{saved, saveChecks}
 use Rattle.parts.specs.RoundTrip.{RoundTrip}
 use Rattle.parts.proofs.RoundTrip.{round-trips}
 use Rattle.emulator.specs.Machine.{Emulator, machineOf, emulatorOf, soundCard, soundRegisters, sound, usable, withRegisters}
-use Rattle.emulator.specs.Effect.{value, Outcome, outcomeOf, effectOf, leaving, filled}
-use Rattle.emulator.specs.Calls.{loadParts, saveParts, given, ownChecks, checks, effect, outcome}
+use Rattle.emulator.specs.Effect.{value, Outcome, carried, outcomeOf, effectOf, leaving, filled}
+use Rattle.emulator.specs.Calls.{loadParts, saveParts, given, ownChecks, checks, effect, probesOf, outcome}
 use Rattle.emulator.specs.Contract.{writes, stateWith, returned}
 use Rattle.assurance.specs.SaveLoad.{SaveLoad}
 use Rattle.assurance.proofs.Answers.{accepted-passes}
@@ -43,8 +43,8 @@ accepted e buf n a =
 -- the stream of a sound register file, loaded on the same card
 loaded : (f : Emulator) (w : ℕ) (file : File) (s : List ℕ) → length file ≡ keptCount → soundFile w file ≡ true → s ≡ saved w file → sound (f .room) (f .machine) ≡ true
     → f .machine .running ≡ false → w ≡ f .machine .words
-    → outcome loadParts s f ≡ record { answer = done (value 0); effect = leaving (withRegisters file (f .machine)) }
-unfolding outcome outcomeOf checks ownChecks effect given usable _then_ _unless_ settle effectOf verdict resultOr RoundTrip sound soundCard
+    → outcome loadParts s f ≡ record { answer = done (value 0); probes = 0; effect = leaving (withRegisters file (f .machine)) }
+unfolding outcome outcomeOf carried checks ownChecks effect probesOf given usable _then_ _unless_ settle effectOf verdict resultOr RoundTrip sound soundCard
 loaded f w file s long kept is good stopped same =
     let card : isCard w ≡ true = rw same (and-true _ _ (and-true _ _ (and-true _ _ good .0) .0) .0) in
     let ok : load (f .machine .words) (f .machine .running) s ≡ done file = rw (is, stopped, ← same) (round-trips w card file long kept) in

@@ -14,6 +14,7 @@ use Rattle.address.specs.Address.{memoryAddress, aligned, inDeviceRange, inMemo
 use Rattle.address.specs.declared.MemoryAddress.{MemoryAddress}
 use Rattle.wire.specs.Field.{field, bytesOf}
 use Rattle.iommu.specs.Table.{holds, addressIn, leftIn, translate, mapped, validRights, readable, alignedMapping, inRange, soundMapping, soundMappingsFrom, soundTable, touches, inside, anyOf, overlaps, cuts, insert, without, totalSize}
+use Rattle.iommu.specs.Halving.{middleOf, probed, searched, halved, probesFor}
 use Rattle.iommu.specs.Requests.{translateChecks, mapChecks, unmapChecks}
 use Rattle.memory.specs.Shadow.{initialized, marked, shadowLength}
 use Rattle.bitmap.specs.Bits.{bit, withBit}
@@ -29,9 +30,9 @@ use Rattle.parts.specs.Step.{valueSize, headerChecks, partAt, stepOn, partStep,
 use Rattle.parts.specs.Load.{flagsOf, listedChecks as listedPartChecks, partChecks, named, taken, finish, onStep, loadFrom, load}
 use Rattle.parts.specs.Save.{encoded, partOf, savedFrom, saved, saveChecks}
 use Rattle.emulator.specs.Machine.{lendableRecords, soundMappings, soundLength, soundCard, soundRegisters, sound, lendable, asNoted, usable, poweredOn, withMappings, withRegisters}
-use Rattle.emulator.specs.Effect.{Result, value, location, effectOf, outcomeOf, after, filled}
+use Rattle.emulator.specs.Effect.{Result, value, location, effectOf, carried, outcomeOf, after, filled}
 use Rattle.emulator.specs.Requests.{entryIn, identify, regionAt, requestedMapping, requestedStart, requestedSize, requestedIndex, argszChecks, listedChecks, sizeChecks, requestChecks, listedEffect, requestEffect}
-use Rattle.emulator.specs.Calls.{given, ownChecks, checks, located, effect, outcome}
+use Rattle.emulator.specs.Calls.{given, ownChecks, checks, located, effect, probesOf, outcome}
 use Rattle.assurance.specs.Starred.{lentRecords, Case, Right, AllRight, none, more, outcomeTo, behind, outcomeIn, mapAt, unmapBuffer, unmapAt, twoMappings, statusPart, offeredPart, offeredPart128, regionSeven, cases, Starred}
 
 -- ---- the test, and that it tells
@@ -80,7 +81,7 @@ same-bytes (x ∷ xs) (y ∷ ys) h = ap₂ _∷_ (eqb-true x y (and-true _ _ h .
 
 right : Case → Bool
 right c =
-    sameAnswer (outcomeIn c .answer) (c .answer)
+    sameAnswer (outcomeIn c .answer) (c .answer) and eqb (outcomeIn c .probes) (c .probes)
     and sameBytes (filled (outcomeIn c .effect .pieces) (c .ask .buffer)) (c .leaves)
 
 allRight : List Case → Bool
@@ -89,7 +90,10 @@ allRight (c ∷ cs) = right c and allRight cs
 
 is-right : (c : Case) → right c ≡ true → Right c
 unfolding right
-is-right c h = record { answer = same-answer _ _ (and-true _ _ h .0); buffer = same-bytes _ _ (and-true _ _ h .1) }
+is-right c h =
+    let p = and-true _ _ h in
+    let q = and-true _ _ (p .0) in
+    record { answer = same-answer _ _ (q .0); probes = eqb-true _ _ (q .1); buffer = same-bytes _ _ (p .1) }
 
 all-right : (cs : List Case) → allRight cs ≡ true → AllRight cs
 unfolding allRight
@@ -99,7 +103,7 @@ all-right (c ∷ cs) h = more (is-right c (and-true _ _ h .0)) (all-right cs (an
 -- ---- the test passes
 
 tested : allRight cases ≡ true
-unfolding sameResult sameAnswer sameBytes right allRight lentRecords outcomeTo behind outcomeIn mapAt unmapBuffer unmapAt twoMappings statusPart offeredPart offeredPart128 regionSeven cases _and_ _or_ pick isSome lengthCheck _then_ _when_ _unless_ _at_ firstFault passes settle _onward_ verdict resultOr aligned inDeviceRange inMemoryRange field bytesOf holds addressIn translate mapped validRights readable alignedMapping inRange soundMapping soundMappingsFrom soundTable touches inside anyOf overlaps cuts insert without totalSize mapChecks unmapChecks initialized marked bit withBit shadowLength edit edited stores unwrittenAt hostWriteChecks readFault transferChecks deviceReadChecks kindOf selectorOf widthOf sizeIn sizeOf rowFrom rowOf selects listed selectorWidth offeredWord offered eachWord within powerOfTwo validQueue contentChecks valueChecks current withValue reset soundValue soundValuesFrom soundFile selectorChecks setChecks valueSize headerChecks partAt stepOn partStep stepAt valueTo flagsOf listedPartChecks partChecks named taken finish onStep loadFrom load encoded partOf savedFrom saved saveChecks lendableRecords soundMappings soundLength wordsOf isCard soundCard soundRegisters sound lendable asNoted usable poweredOn withMappings withRegisters effectOf outcomeOf after filled entryIn identify regionAt requestedMapping requestedStart requestedSize requestedIndex argszChecks listedChecks sizeChecks requestChecks listedEffect requestEffect given ownChecks checks effect outcome leftIn translateChecks located
+unfolding sameResult sameAnswer sameBytes right allRight lentRecords outcomeTo behind outcomeIn mapAt unmapBuffer unmapAt twoMappings statusPart offeredPart offeredPart128 regionSeven cases _and_ _or_ pick isSome lengthCheck _then_ _when_ _unless_ _at_ firstFault passes settle _onward_ verdict resultOr aligned inDeviceRange inMemoryRange field bytesOf holds addressIn translate mapped validRights readable alignedMapping inRange soundMapping soundMappingsFrom soundTable touches inside anyOf overlaps cuts insert without totalSize mapChecks unmapChecks initialized marked bit withBit shadowLength edit edited stores unwrittenAt hostWriteChecks readFault transferChecks deviceReadChecks kindOf selectorOf widthOf sizeIn sizeOf rowFrom rowOf selects listed selectorWidth offeredWord offered eachWord within powerOfTwo validQueue contentChecks valueChecks current withValue reset soundValue soundValuesFrom soundFile selectorChecks setChecks valueSize headerChecks partAt stepOn partStep stepAt valueTo flagsOf listedPartChecks partChecks named taken finish onStep loadFrom load encoded partOf savedFrom saved saveChecks lendableRecords soundMappings soundLength wordsOf isCard soundCard soundRegisters sound lendable asNoted usable poweredOn withMappings withRegisters effectOf outcomeOf after filled entryIn identify regionAt requestedMapping requestedStart requestedSize requestedIndex argszChecks listedChecks sizeChecks requestChecks listedEffect requestEffect given ownChecks checks effect outcome leftIn translateChecks located carried probesOf middleOf probed searched halved probesFor
 tested = refl
 
 pub starred : Starred

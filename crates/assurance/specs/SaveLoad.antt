@@ -22,7 +22,7 @@ pub record SaveLoad : Type 0 where
   pub outcomes : (e f : Emulator) (buf : List ℕ) (n : ℕ) → length (e .machine .registers) ≡ keptCount
       → outcome saveParts buf e .answer ≡ done (value n) → sound (f .room) (f .machine) ≡ true → f .machine .running ≡ false → e .machine .words ≡ f .machine .words
       → outcome loadParts (take n (filled (outcome saveParts buf e .effect .pieces) buf)) f
-      ≡ record { answer = done (value 0); effect = leaving (withRegisters (e .machine .registers) (f .machine)) }
+      ≡ record { answer = done (value 0); probes = 0; effect = leaving (withRegisters (e .machine .registers) (f .machine)) }
   -- as the code does it, from the state `s` into the state `t`: it answers 0, and returns `t` with the saved registers, as code writes them
   pub code : (s s′ t t′ : State) (rs rs′ us us′ : List Mapping) (m m′ k k′ : Memory) (buf saved stream : List ℕ) (n : ℕ) (r : Answer Result) → length (s .registers .slots) ≡ keptCount
       → Meets saveParts buf s rs m (done (value n)) saved m′ s′ rs′ → sound (length us) (machineOf t us) ≡ true → machineOf t us .running ≡ false → s .words ≡ t .words

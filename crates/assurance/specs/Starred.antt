@@ -1,4 +1,4 @@
--- The worked values of rules 7.1 to 7.12, 7.19 to 7.22 and 7.26 to 7.30, as one table under one statement (rule 8.5).
+-- The worked values of rules 7.1 to 7.12, 7.19 to 7.22 and 7.26 to 7.31, as one table under one statement (rule 8.5).
 use Prim.Native.Nat.{ℕ, _+_, _-_, _/_, _^_}
 use mathlib.Core.Path.{_≡_}
 use mathlib.Core.Bool.{Bool}
@@ -30,13 +30,14 @@ unfoldable pub behind : List Ask → Emulator → Emulator
 behind [] e = e
 behind (q ∷ qs) e = behind qs (after (outcomeTo q e .effect) e)
 
--- A case: on a fresh emulator of a card and two pages, after the calls `before`, the call `ask` answers `answer` and leaves its buffer as
--- `leaves`.
+-- A case: on a fresh emulator of a card and two pages, after the calls `before`, the call `ask` answers `answer`, tells of `probes` records
+-- looked at, and leaves its buffer as `leaves`.
 pub record Case : Type 0 where
   pub card : Card
   pub before : List Ask
   pub ask : Ask
   pub answer : Answer Result
+  pub probes : ℕ
   pub leaves : List ℕ
 
 -- as power on leaves it: nothing is written, whatever bytes stand there
@@ -49,6 +50,7 @@ outcomeIn c = outcomeTo (c .ask) (behind (c .before) (fresh (c .card)))
 
 pub record Right (c : Case) : Type 0 where
   pub answer : outcomeIn c .answer ≡ c .answer
+  pub probes : outcomeIn c .probes ≡ c .probes
   pub buffer : filled (outcomeIn c .effect .pieces) (c .ask .buffer) ≡ c .leaves
 
 -- every case of a list is right
@@ -113,11 +115,15 @@ gives n = done (value n)
 
 -- a case that leaves its buffer as it was
 abbrev pub answersOn : Card → List Ask → Ask → Answer Result → Case
-answersOn card before q a = record { card = card; before = before; ask = q; answer = a; leaves = q .buffer }
+answersOn card before q a = record { card = card; before = before; ask = q; answer = a; probes = 0; leaves = q .buffer }
 
 -- one on the first card
 abbrev pub answers : List Ask → Ask → Answer Result → Case
 answers = answersOn Features64
+
+-- a look-up, with the records that it looks at
+abbrev pub finds : List Ask → ℕ → Answer Result → ℕ → Case
+finds before d a n = record { card = Features64; before = before; ask = lookUp (deviceAddress d) lent []; answer = a; probes = n; leaves = [] }
 
 unfoldable pub cases : List Case
 cases =
@@ -127,10 +133,11 @@ cases =
       before = [];
       ask = request device 108 lent bytesOf 4 32 ++ stale 4 ++ bytesOf 4 7 ++ stale 20;
       answer = gives 0;
+      probes = 0;
       leaves = regionSeven;
     }
     -- rule 7.2: a reset device saved
-    ∷ record { card = Features64; before = []; ask = saveParts lent stale 43; answer = gives 41; leaves = offeredPart ++ statusPart ++ stale 2 }
+    ∷ record { card = Features64; before = []; ask = saveParts lent stale 43; answer = gives 41; probes = 0; leaves = offeredPart ++ statusPart ++ stale 2 }
     -- rule 7.3: no parts
     ∷ answers [] (loadParts lent []) (refused Missing 0)
     -- rule 7.4: status alone
@@ -144,7 +151,7 @@ cases =
     -- rule 7.8: a mapping cut
     ∷ answers twoMappings (unmapAt 4096 8192) (refused Cuts 0)
     -- rule 7.9: both removed, and the sum of their sizes in the size field
-    ∷ record { card = Features64; before = twoMappings; ask = unmapAt 0 12288; answer = gives 0; leaves = unmapBuffer 0 12288 }
+    ∷ record { card = Features64; before = twoMappings; ask = unmapAt 0 12288; answer = gives 0; probes = 0; leaves = unmapBuffer 0 12288 }
     -- rule 7.10: empty before unaligned
     ∷ answers [] (mapAt 1 0) (refused Empty 0)
     -- rule 7.11: a queue of size 3
@@ -152,7 +159,7 @@ cases =
     -- rule 7.12: the second of two bytes is not written
     ∷ answers (mapAt 0 4096 ∷ (hostWrite (memoryAddress 0) lent 0x5A ∷ []) ∷ []) (deviceRead (deviceAddress 0) lent stale 2) (refused Unwritten 1)
     -- rule 7.19: a reset device of the second card saved
-    ∷ record { card = Features128; before = []; ask = saveParts lent stale 51; answer = gives 49; leaves = offeredPart128 ++ statusPart ++ stale 2 }
+    ∷ record { card = Features128; before = []; ask = saveParts lent stale 51; answer = gives 49; probes = 0; leaves = offeredPart128 ++ statusPart ++ stale 2 }
     -- rule 7.20: the other card's offered features
     ∷ answers [] (loadParts lent statusPart ++ offeredPart128) (refused Value 17)
     ∷ answersOn Features128 [] (loadParts lent statusPart ++ offeredPart) (refused Value 17)
@@ -171,11 +178,14 @@ cases =
     ∷ answers [] (powerOn Features64 lent [] within 4096) (gives 0)
     -- rule 7.29: fewer records than are in use
     ∷ answers (mapAt 0 4096 ∷ []) (stop lent [] within 0) (refused BadBench 0)
-    -- rule 7.30: a mapping runs on to its end, and not into the one that adjoins
-    ∷ answers twoMappings (lookUp (deviceAddress 4097) lent []) (done (location (memoryAddress 4097) 3 4095))
-    ∷ answers twoMappings (lookUp (deviceAddress 8191) lent []) (done (location (memoryAddress 8191) 3 1))
-    ∷ answers twoMappings (lookUp (deviceAddress 8192) lent []) (done (location (memoryAddress 0) 3 4096))
-    ∷ answers twoMappings (lookUp (deviceAddress 12288) lent []) (refused Unmapped 0)
+    -- rule 7.30: a mapping runs on to its end, and not into the one that adjoins; place 1 of two is looked at first
+    ∷ finds twoMappings 4097 (done (location (memoryAddress 4097) 3 4095)) 2
+    ∷ finds twoMappings 8191 (done (location (memoryAddress 8191) 3 1)) 2
+    ∷ finds twoMappings 8192 (done (location (memoryAddress 0) 3 4096)) 1
+    -- rule 7.31: 14 tells how many were looked at, of no mappings 0; 9 tells of none
+    ∷ finds twoMappings 12288 (refused Unmapped 0) 1
+    ∷ finds [] 0 (refused Unmapped 0) 0
+    ∷ finds twoMappings deviceLimit (refused Range 0) 0
     ∷ []
 
 -- The statement: all of them are right. proofs/Starred.antt has its term.

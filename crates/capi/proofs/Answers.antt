@@ -14,6 +14,7 @@ use Rattle.answer.specs.Checks.{_then_, _unless_}
 use Rattle.answer.specs.Codes.{BadBench}
 use Rattle.answer.proofs.Checks.{never}
 use Rattle.answer.specs.Tests.{flagged}
+use Rattle.address.specs.declared.DeviceAddress.{DeviceAddress}
 use Rattle.iommu.specs.declared.Mapping.{Mapping}
 use Rattle.memory.specs.Memory.{Memory}
 use Rattle.registers.specs.declared.Registers.{Registers}
@@ -23,14 +24,16 @@ use Rattle.parts.specs.declared.Loaded.{Loaded}
 use Rattle.parts.specs.declared.Step.{Step}
 use Rattle.parts.specs.declared.Step.the-variants.{Part, End, Refused as Stopped}
 use Rattle.parts.proofs.Steps.{step-says}
-use Rattle.emulator.specs.Machine.{machineOf, sound}
+use Rattle.emulator.specs.Machine.{machineOf, emulatorOf, sound}
 use Rattle.emulator.specs.Effect.{Result, value}
-use Rattle.emulator.specs.Calls.{Call, loadParts, loadOn}
-use Rattle.emulator.specs.Contract.{Meets, told, withRegistersIn}
+use Rattle.emulator.specs.Calls.{Call, lookUp, loadParts, loadOn, outcome}
+use Rattle.emulator.specs.Contract.{Meets, Locates, told, toldLocation, toldProbes, withRegistersIn}
+use Rattle.emulator.specs.declared.Location.{Location}
 use Rattle.emulator.specs.declared.State.{State}
 use Rattle.emulator.proofs.PartCalls.{load-refused, load-done}
-use Rattle.capi.specs.Structs.{refusal, answerStruct, stepStruct, keptBy}
+use Rattle.capi.specs.Structs.{refusal, answerStruct, foundStruct, stepStruct, keptBy}
 use Rattle.capi.specs.Contract.{Returns, Tells, Steps}
+use Rattle.capi.specs.declared.Found.{Found}
 use Rattle.capi.specs.declared.Outcome.{Outcome}
 
 module _ {A : Type 0} {shape : Answer Result → A} {c : Call} {buf : List ℕ} {s : State} {rs : List Mapping} {m : Memory} {a : Answer Result} {buf′ : List ℕ} {m′ : Memory} {s′ : State} {rs′ : List Mapping} where
@@ -41,6 +44,11 @@ module _ {A : Type 0} {shape : Answer Result → A} {c : Call} {buf : List ℕ} 
 
   pub as-told : {r : A} → r ≡ shape a → Meets c buf s rs m a buf′ m′ s′ rs′ → Returns shape c buf s rs m r buf′ m′ s′ rs′
   as-told e h = as-kept (e, refl) h
+
+-- look-up's, with the count beside it
+pub as-located : {d : DeviceAddress} {s : State} {rs : List Mapping} {m : Memory} {l : Location} {r : Found} → r ≡ foundStruct (toldLocation l) (toldProbes l) → Locates d s rs m l
+    → Returns (λ a. foundStruct a (outcome (lookUp d) [] (emulatorOf s rs m) .probes)) (lookUp d) [] s rs m r [] m s rs
+as-located {d} {s} {rs} {m} {l} e h = as-told (e ∙ ap (foundStruct (toldLocation l)) (h .count)) (h .meets)
 
 -- the answer of a transfer: refusal 1, or what its checks came to
 module _ {ok : Bool} (v : Verdict) where

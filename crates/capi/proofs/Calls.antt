@@ -18,11 +18,14 @@ use Rattle.answer.proofs.Checks.{never, passes-pass, passes-is}
 use Rattle.address.specs.Address.{deviceAddress, memoryAddress, memoryLimit, inDeviceRange, inMemoryRange}
 use Rattle.address.specs.declared.DeviceAddress.{DeviceAddress}
 use Rattle.iommu.specs.Table.{capacity, blank, holds, inRange, shownBy, translate, soundTable, soundMappingsFrom, tableOf, inUse, firstPast, Sound, Placed}
+use Rattle.iommu.specs.Halving.{searchOf, searched, probesFor}
 use Rattle.iommu.specs.declared.Mapping.{Mapping}
 use Rattle.iommu.specs.declared.Search.{Search}
 use Rattle.iommu.specs.declared.Unmap.{Unmap}
-use Rattle.iommu.proofs.Order.{blank-holds, past-bound, translate-placed}
-use Rattle.iommu.proofs.Soundness.{sound-at}
+use Rattle.iommu.proofs.Halving.{probes-counted}
+use Rattle.iommu.proofs.Order.{past-bound, translate-placed}
+use Rattle.iommu.proofs.Passes.{in-use-length}
+use Rattle.iommu.proofs.Requests.{shown-asks}
 use Rattle.memory.specs.Shadow.{packed, markBytes}
 use Rattle.memory.specs.Memory.{Memory, memoryOf, edited, clears}
 use Rattle.dma.specs.Transfers.{transferChecks, deviceReadChecks, deviceWriteChecks, gather, scatter}
@@ -147,31 +150,14 @@ module _ (stream : List ℕ) (s : State) (rs : List Mapping) (l : LoadReply) (h 
 
 -- ---- look-up
 
--- past the end of a list
-getD-past : (ms : List Mapping) (i : ℕ) (m : Mapping) → length ms ≤ i → getD ms i m ≡ m
-getD-past [] i m h = refl
-getD-past (x ∷ ms) zero m h = absurd (omega arith)
-getD-past (x ∷ ms) (suc i) m h = getD-past ms i m (omega arith)
-
--- a mapping of a sound table that holds an address lies in range
-placed-range : (ms : List Mapping) (d : DeviceAddress) (i : ℕ) → soundTable memoryLimit ms ≡ true → holds (getD ms i blank) d ≡ true → inRange memoryLimit (getD ms i blank) ≡ true
-unfolding soundTable inRange inDeviceRange inMemoryRange
-placed-range ms d i e h = go (ltb i (length ms)) refl
-  where
-    go : (t : Bool) → ltb i (length ms) ≡ t → inRange memoryLimit (getD ms i blank) ≡ true
-    go true l = let f = sound-at memoryLimit 0 ms i blank e (ltb-true _ _ l) in and-made _ _ (le-leb _ _ (f .below)) (le-leb _ _ (f .within))
-    go false l =
-        let nothing : holds (getD ms i blank) d ≡ false = ap (λ (x : Mapping). holds x d) (getD-past ms i blank (ltb-false _ _ l)) ∙ blank-holds d in
-        absurd (false≢true (sym nothing ∙ h))
-
 -- the record at the place that was found, of those that the call goes on with
 module _ (s : State) (rs : List Mapping) {ok : Bool} (is : ok ≡ sound (length rs) (machineOf s rs)) (n : ℕ) (held : n ≡ pick ok (s .count) 0) (d : DeviceAddress)
-    (found : Search) (placed : Placed (inUse (tableOf rs n)) d (found .lo) (found .held)) (at : ℕ) (there : at ≡ found .lo) (m : Mapping) (read : m ≡ getD (inUse (tableOf rs n)) at blank) where
+    (found : Search) (by : (found ≡ searched n (inUse (tableOf rs n)) d (searchOf n)) × Placed (inUse (tableOf rs n)) d (found .lo) (found .held)) (at : ℕ) (there : at ≡ found .lo) (m : Mapping) (read : m ≡ getD (inUse (tableOf rs n)) at blank) where
   here : m ≡ getD (inUse (tableOf rs n)) (firstPast d (inUse (tableOf rs n))) blank
-  here = read ∙ ap (λ (i : ℕ). getD (inUse (tableOf rs n)) i blank) (there ∙ placed .place)
+  here = read ∙ ap (λ (i : ℕ). getD (inUse (tableOf rs n)) i blank) (there ∙ by .1 .place)
 
   pub look-up-asks : ok ≡ true → holds m d ≡ true → inRange memoryLimit m ≡ true
-  look-up-asks h e = rw here (placed-range (inUse (tableOf rs n)) d (firstPast d (inUse (tableOf rs n))) (admitted-sound s rs is n held .table) (rw here at e))
+  look-up-asks h e = shown-asks memoryLimit (inUse (tableOf rs n)) d at (admitted-sound s rs is n held .table) m read e
 
   pub look-up-shows : ok ≡ true → shownBy m d ≡ translate (machineOf s rs .mappings) d
   unfolding machineOf
@@ -179,6 +165,13 @@ module _ (s : State) (rs : List Mapping) {ok : Bool} (is : ok ≡ sound (length 
       let all : n ≡ s .count = held ∙ pick-true _ _ _ h in
       let list : m ≡ getD (inUse (tableOf rs (s .count))) (firstPast d (inUse (tableOf rs (s .count)))) blank = rw all at here in
       rw list (sym (translate-placed (s .«memory_length») (inUse (tableOf rs (s .count))) d (sound-list s rs (sym is ∙ h))))
+
+  pub look-up-counts : ok ≡ true → found .probes ≡ probesFor (machineOf s rs .mappings) d
+  unfolding machineOf
+  look-up-counts h =
+      let all : n ≡ s .count = held ∙ pick-true _ _ _ h in
+      let long : length (inUse (tableOf rs n)) ≡ n = in-use-length (tableOf rs n) (admitted-sound s rs is n held .fits) in
+      probes-counted (inUse (tableOf rs n)) d n long found (by .0) ∙ rw all refl
 
 pub looked-up : (s : State) (rs : List Mapping) (d : DeviceAddress) (x : ℕ) → d ≡ deviceAddress x → (r : Found) → FindsAt d s rs r → FindsAt (deviceAddress x) s rs r
 looked-up s rs d x e r h = rw (sym e) h

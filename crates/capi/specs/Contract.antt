@@ -45,7 +45,7 @@ TellsAlone c buf s rs r buf′ s′ rs′ = (m : Memory) → Tells c buf s rs m 
 
 -- look-up, which answers by a struct of its own
 abbrev pub FindsAt : DeviceAddress → State → List Mapping → Found → Type 0
-FindsAt d s rs r = (m : Memory) → Returns foundStruct (lookUp d) [] s rs m r [] m s rs
+FindsAt d s rs r = (m : Memory) → Returns (λ a. foundStruct a (outcome (lookUp d) [] (emulatorOf s rs m) .probes)) (lookUp d) [] s rs m r [] m s rs
 
 -- an admitted request that maps nothing, in numbers
 pub record Replied (a : Admission) (buf : List ℕ) (r : Outcome) (buf′ : List ℕ) : Type 0 where

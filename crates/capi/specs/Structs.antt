@@ -32,11 +32,11 @@ answerStruct (refused code place) = refusal code place
 abbrev pub doneIf : Bool → Outcome
 doneIf ok = cond ok (success 0) (refusal BadBench 0)
 
--- look-up's answer
-abbrev pub foundStruct : Answer Result → Found
-foundStruct (done (value n)) = record { outcome = success n; address = memoryAddress 0; rights = 0; left = 0 }
-foundStruct (done (location a rights left)) = record { outcome = success 0; address = a; rights = rights; left = left }
-foundStruct (refused code place) = record { outcome = refusal code place; address = memoryAddress 0; rights = 0; left = 0 }
+-- look-up's answer, with how many records it looked at
+abbrev pub foundStruct : Answer Result → ℕ → Found
+foundStruct (done (value n)) probes = record { outcome = success n; address = memoryAddress 0; rights = 0; left = 0; probes = probes }
+foundStruct (done (location a rights left)) probes = record { outcome = success 0; address = a; rights = rights; left = left; probes = probes }
+foundStruct (refused code place) probes = record { outcome = refusal code place; address = memoryAddress 0; rights = 0; left = 0; probes = probes }
 
 -- a step that found no part: refused, or at the end; the walk goes on at `next`
 abbrev pub noPart : Bool → ℕ → ℕ → ℕ → PartStep

@@ -29,6 +29,7 @@ ghost use Rattle.answer.specs.Answer.{settle};
 ghost use Rattle.answer.specs.declared.Verdict.the-variants.{Pass};
 ghost use Rattle.address.specs.Address.{deviceAddress, memoryAddress, memoryLimit};
 ghost use Rattle.iommu.specs.Table.{tableOf, holds, inRange, shownBy, translate};
+ghost use Rattle.iommu.specs.Halving.{probesFor};
 ghost use Rattle.iommu.specs.declared.Mapping.{Mapping as MappingRecord};
 ghost use Rattle.memory.specs.Memory.{memoryOf};
 ghost use Rattle.dma.specs.Walk.{Ready};
@@ -39,7 +40,7 @@ ghost use Rattle.emulator.specs.Machine.{machineOf, emulatorOf, both as stateAn
 ghost use Rattle.emulator.specs.Effect.{value};
 ghost use Rattle.emulator.specs.Requests.{sizeChecks};
 ghost use Rattle.emulator.specs.Calls.{powerOn, request, deviceRead, deviceWrite, hostWrite, hostRead, invalidate, setRegister, readRegister, loadParts, saveParts, stop, start};
-ghost use Rattle.emulator.specs.Contract.{lentMemory, leftMemory, remarkedMemory, told, toldLocation};
+ghost use Rattle.emulator.specs.Contract.{lentMemory, leftMemory, remarkedMemory, told, toldLocation, toldProbes};
 ghost use Rattle.emulator.specs.declared.State.{State as StateRecord};
 ghost use Rattle.vfio.specs.Entries.{entryAt};
 ghost use Rattle.vfio.specs.Handlers.{mapIndex, unmapIndex};
@@ -55,13 +56,15 @@ pub struct Outcome {
     pub result: u64,
 }
 
-// Look-up's answer: its result is a memory address, rights, and the bytes left from the device address to the end of its mapping.
+// Look-up's answer: its result is a memory address, rights, and the bytes left from the device address to the end of its mapping. Beside it
+// and beside refusal 14 stands how many records were looked at.
 #[repr(C)]
 pub struct Found {
     pub outcome: Outcome,
     pub address: MemoryAddress,
     pub rights: u32,
     pub left: u64,
+    pub probes: u64,
 }
 
 // One step over a stream of parts: a refusal; the end; or a part, with the bounds of its value in the stream. `next` is the place of the
@@ -112,25 +115,27 @@ fn numbers(a: Answer) -> Outcome
 }
 
 fn location(l: Location) -> Found
-    ensures { λ r. ⌜ r ≡ foundStruct (toldLocation l) ⌝ }
+    ensures { λ r. ⌜ r ≡ foundStruct (toldLocation l) (toldProbes l) ⌝ }
 {
     match l {
-        Location::At(address, rights, left) => {
+        Location::At(address, rights, left, probes) => {
             let outcome = success(0);
             Found {
                 outcome,
                 address,
                 rights,
                 left,
+                probes,
             }
         }
-        Location::Refused(code, place) => {
+        Location::Refused(code, place, probes) => {
             let outcome = refusal(code, place);
             Found {
                 outcome,
                 address: MemoryAddress(0),
                 rights: 0,
                 left: 0,
+                probes,
             }
         }
     }
@@ -265,11 +270,11 @@ pub extern "C" fn glint_request(
     handle(state, records, admission, buf)
 }
 
-fn found_at(ok: bool, d: DeviceAddress, m: Mapping) -> Found
+fn found_at(ok: bool, d: DeviceAddress, found: Search, m: Mapping) -> Found
     requires { ⌜ (ok ≡ true → holds m d ≡ true → inRange memoryLimit m ≡ true) ⌝ }
-    ensures { λ r. ⌜ ((s : StateRecord) (rs : List MappingRecord) → ok ≡ soundMachine (lengthOf rs) (machineOf s rs) → (ok ≡ true → shownBy m d ≡ translate (machineOf s rs .mappings) d) → FindsAt d s rs r) ⌝ }
+    ensures { λ r. ⌜ ((s : StateRecord) (rs : List MappingRecord) → ok ≡ soundMachine (lengthOf rs) (machineOf s rs) → (ok ≡ true → shownBy m d ≡ translate (machineOf s rs .mappings) d) → (ok ≡ true → found .probes ≡ probesFor (machineOf s rs .mappings) d) → FindsAt d s rs r) ⌝ }
 {
-    location(emulator::locate(ok, d, m))
+    location(emulator::locate(ok, d, m, found.probes))
 }
 
 fn place_of(s: Search) -> usize
@@ -287,8 +292,9 @@ pub extern "C" fn glint_look_up(state: &State, records: &[Mapping], device: u64)
     let held = state.count;
     let count = emulator::admitted(ok, held);
     let d = device_at(device);
-    let place = place_of(iommu::find(records, count, d));
-    found_at(ok, d, iommu::get(records, count, place))
+    let found = iommu::find(records, count, d);
+    let place = place_of(found);
+    found_at(ok, d, found, iommu::get(records, count, place))
 }
 
 // Whether a transfer is accepted.

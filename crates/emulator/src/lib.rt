@@ -18,16 +18,17 @@ ghost use Rattle.answer.specs.Tests.{_and_, pick, flagged, flagByte};
 ghost use Rattle.answer.specs.Answer.{refused};
 ghost use Rattle.address.specs.Address.{memoryLimit, memoryAddress};
 ghost use Rattle.iommu.specs.Table.{holds, inRange, shownBy, translate};
+ghost use Rattle.iommu.specs.Halving.{probesFor};
 ghost use Rattle.iommu.specs.declared.Mapping.{Mapping as MappingRecord};
-ghost use Rattle.memory.specs.Memory.{memoryOf, edited, clears};
+ghost use Rattle.memory.specs.Memory.{Memory, memoryOf, edited, clears};
 ghost use Rattle.registers.specs.Cards.{isCard};
 ghost use Rattle.registers.specs.File.{soundFile, fileOf};
 ghost use Rattle.registers.specs.declared.Card.the-variants.{Features64, Features128};
 ghost use Rattle.parts.specs.Load.{loadedOf};
 ghost use Rattle.emulator.specs.Machine.{machineOf, emulatorOf, both as stateAndMemory, sound as soundMachine, lendable as canLend, lendableRecords, usable as canUse, poweredOn};
-ghost use Rattle.emulator.specs.Calls.{lookUp, hostWrite, hostRead, setRegister, readRegister, saveParts, loadOn};
+ghost use Rattle.emulator.specs.Calls.{hostWrite, hostRead, setRegister, readRegister, saveParts, loadOn};
 ghost use Rattle.emulator.specs.Calls as calls;
-ghost use Rattle.emulator.specs.Contract.{Meets, MeetsAlone, lentMemory, leftMemory, remarkedMemory, told, toldLocation, withRegistersIn, stateWith, everything};
+ghost use Rattle.emulator.specs.Contract.{Meets, MeetsAlone, Locates, lentMemory, leftMemory, remarkedMemory, told, withRegistersIn, stateWith, everything};
 ghost use Rattle.emulator.specs.declared.State.{State as StateRecord};
 
 // The state that a caller keeps between calls: the length of memory noted at power on, how many of the lent records are in use, the
@@ -45,10 +46,11 @@ pub struct State {
 // What the byte `running` of a state holds where the device runs.
 const RUNNING: u8 = 1;
 
-// What look-up answers: memory address, rights and the bytes left of the mapping, or a refusal's number and place.
+// What look-up answers: memory address, rights and the bytes left of the mapping, or a refusal's number and place; and in either case how
+// many records it looked at.
 pub enum Location {
-    At(MemoryAddress, u32, u64),
-    Refused(u32, u64),
+    At(MemoryAddress, u32, u64, u64),
+    Refused(u32, u64, u64),
 }
 
 // An answer, and the registers to keep.
@@ -180,20 +182,20 @@ pub fn fresh_128(length: usize) -> State
 }
 
 // Look-up: where a device address lies in memory, and with which rights. `m` is the first mapping that ends past it.
-pub fn locate(ok: bool, d: DeviceAddress, m: Mapping) -> Location
+pub fn locate(ok: bool, d: DeviceAddress, m: Mapping, probes: u64) -> Location
     requires { ⌜ (ok ≡ true → holds m d ≡ true → inRange memoryLimit m ≡ true) ⌝ }
-    ensures { λ r. ⌜ ((s : StateRecord) (rs : List MappingRecord) → ok ≡ soundMachine (length rs) (machineOf s rs) → (ok ≡ true → shownBy m d ≡ translate (machineOf s rs .mappings) d) → MeetsAlone (lookUp d) [] s rs (toldLocation r) [] s rs) ⌝ }
+    ensures { λ r. ⌜ ((s : StateRecord) (rs : List MappingRecord) → ok ≡ soundMachine (length rs) (machineOf s rs) → (ok ≡ true → shownBy m d ≡ translate (machineOf s rs .mappings) d) → (ok ≡ true → probes ≡ probesFor (machineOf s rs .mappings) d) → (mem : Memory) → Locates d s rs mem r) ⌝ }
 {
     if !ok {
-        return Location::Refused(answer::BAD_BENCH, 0);
+        return Location::Refused(answer::BAD_BENCH, 0, 0);
     }
     if address::DEVICE_LIMIT <= d.0 {
-        return Location::Refused(answer::RANGE, 0);
+        return Location::Refused(answer::RANGE, 0, 0);
     }
     let found = iommu::shown_by(m, d);
     match found {
-        Translation::At(a, rights, left) => Location::At(a, rights, left),
-        Translation::Nowhere => Location::Refused(answer::UNMAPPED, 0),
+        Translation::At(a, rights, left) => Location::At(a, rights, left, probes),
+        Translation::Nowhere => Location::Refused(answer::UNMAPPED, 0, probes),
     }
 }
 

@@ -14,7 +14,7 @@ use Rattle.address.specs.declared.DeviceAddress.{DeviceAddress}
 use Rattle.iommu.specs.declared.Mapping.{Mapping}
 use Rattle.iommu.specs.declared.Search.{Search}
 use Rattle.iommu.specs.Table.{blank, capacity, holds, soundTable, firstPast, Placed}
-use Rattle.iommu.specs.Halving.{search, searchOf, middleOf, probed, searched, Open}
+use Rattle.iommu.specs.Halving.{search, searchOf, middleOf, probed, searched, halved, probesFor, HalvingIsShort, Open}
 use Rattle.iommu.proofs.Order.{past-bound, past-below, past-above, past-holder, blank-holds, holds-passed}
 
 pub middle-in : (lo hi : ℕ) → lo < hi → (lo ≤ (lo + hi) / 2) × ((lo + hi) / 2 < hi)
@@ -178,9 +178,13 @@ probes-from ms d (suc fuel) s (suc k) w =
     let less = halves (getD ms (middleOf s) blank) d s (2 ^ k) h (omega (arith, two-pow-succ k)) in
     omega (arith, n, probes-from ms d fuel r k less))
 
-pub probes-few : (ms : List Mapping) (d : DeviceAddress) (count k : ℕ) → count < 2 ^ k → searched count ms d (searchOf count) .probes ≤ k
-probes-few ms d count k h = omega (arith, probes-from ms d count (searchOf count) k (omega arith))
+pub halving-short : HalvingIsShort
+unfolding probesFor halved
+halving-short ms d digits h = omega (arith, probes-from ms d (length ms) (searchOf (length ms)) digits (omega arith))
 
--- 4,096 records take no more than 13
-pub probes-limit : (ms : List Mapping) (d : DeviceAddress) (count : ℕ) → count ≤ capacity → searched count ms d (searchOf count) .probes ≤ 13
-probes-limit ms d count h = probes-few ms d count 13 (omega arith)
+-- ---- the rule over all mappings held
+
+-- as it is counted by the code, which has their number
+pub probes-counted : (ms : List Mapping) (d : DeviceAddress) (count : ℕ) → length ms ≡ count → (s : Search) → s ≡ searched count ms d (searchOf count) → s .probes ≡ probesFor ms d
+unfolding probesFor halved
+probes-counted ms d count n s e = rw (e, ← n) refl

@@ -18,9 +18,11 @@ use Rattle.iommu.specs.declared.Mapping.{Mapping}
 use Rattle.iommu.specs.declared.Translation.the-variants.{At, Nowhere}
 use Rattle.iommu.specs.declared.Unmap.{Unmap}
 use Rattle.iommu.specs.Table.{blank, holds, shown, shownBy, translate, mapped, inRange, soundTable, overlaps, cuts, insert, insertedAt, withoutRun, firstPast, Placed, sticksOut}
+use Rattle.iommu.specs.Halving.{halved, HalvingFinds}
 use Rattle.iommu.specs.Requests.{mapChecks, unmapChecks, endOf, refusedUnmap, removingRun, Removes, Unmaps}
 use Rattle.iommu.proofs.Soundness.{Facts, mapping-facts, sound-at}
 use Rattle.iommu.proofs.Changes.{map-passed}
+use Rattle.iommu.proofs.Halving.{searched-placed}
 use Rattle.iommu.proofs.Order.{past-bound, blank-holds, translate-placed, insert-placed, overlaps-placed, cuts-placed, removes-placed, removes-end}
 
 -- ---- look-up
@@ -39,6 +41,13 @@ module _ (ms : List Mapping) (d : DeviceAddress) (at : ℕ) (held : Bool) (p : P
       go : (s : Bool) → mapped (pick s (shown (getD ms at blank) d) Nowhere) ≡ s
       go true = unfold pick mapped in refl
       go false = unfold pick mapped in refl
+
+-- halving finds what look-up tells of
+pub halving-finds : HalvingFinds
+unfolding halved
+halving-finds size ms d sound =
+    let p = searched-placed size ms d (length ms) sound refl in
+    record { mapping = sym (translate-at ms d _ _ p size sound _ refl); held = sym (mapped-at ms d _ _ p size sound) }
 
 -- what `shown_by` asks of a record in use, and of the blank one
 pub record-range : (size : ℕ) (ms : List Mapping) (i : ℕ) → soundTable size ms ≡ true → i < length ms → inRange size (getD ms i blank) ≡ true

@@ -15,7 +15,7 @@ use Rattle.memory.specs.Memory.{Memory, edited}
 use Rattle.emulator.specs.Machine.{Emulator, both, usable, emulatorOf}
 use Rattle.emulator.specs.Effect.{Result, effectOf, outcomeOf}
 use Rattle.emulator.specs.Requests.{Request, getApiVersion, checkExtension, getIommuInfo, mapDma, unmapDma, getInfo, getRegionInfo, getIrqInfo, resetDevice, Entry, identify, listedChecks, requestChecks, listedEffect, requestEffect, sizeChecks}
-use Rattle.emulator.specs.Calls.{request, given, ownChecks, checks, effect, outcome}
+use Rattle.emulator.specs.Calls.{request, given, ownChecks, checks, effect, probesOf, outcome}
 use Rattle.emulator.specs.Contract.{entryWrites, requestWrites, writes, Meets}
 use Rattle.emulator.specs.declared.State.{State}
 use Rattle.emulator.proofs.Meets.{meets-refused}
@@ -99,7 +99,7 @@ module _ (target number : ℕ) (buf : List ℕ) (s : State) (rs : List Mapping) 
         rw (admitted-good, is) (size-passes (entryOf (a .index)) buf (emulatorOf s rs m) p)
 
     its-outcome : outcome (request target number) buf (emulatorOf s rs m) ≡ handled (entryOf (a .index) .request) buf s rs m
-    unfolding outcome handled effect requestEffect
+    unfolding outcome handled effect probesOf requestEffect
     its-outcome = rw (its-checks, is)
 
     its-writes : writes (request target number) buf ≡ requestWrites (entryOf (a .index) .request)

@@ -24,7 +24,7 @@ use Rattle.vfio.specs.declared.Map.{Map}
 
 -- the outcome of a request whose checks 1 to 4 have passed
 unfoldable pub handled : Request → List ℕ → State → List Mapping → Memory → Outcome
-handled q buf s rs m = outcomeOf (listedChecks q buf (emulatorOf s rs m)) (listedEffect q buf (emulatorOf s rs m)) (emulatorOf s rs m .machine)
+handled q buf s rs m = outcomeOf (listedChecks q buf (emulatorOf s rs m)) (listedEffect q buf (emulatorOf s rs m)) (emulatorOf s rs m .machine) 0
 
 pub record Handles (q : Request) (buf : List ℕ) (s : State) (rs : List Mapping) (m : Memory) (r : Answer Result) (buf′ : List ℕ) (s′ : State) (rs′ : List Mapping) : Type 0 where
   pub answer : r ≡ handled q buf s rs m .answer

@@ -8,6 +8,7 @@ mod check_save;
 mod measures;
 mod plain;
 mod rival;
+mod search;
 mod timing;
 mod world;
 
@@ -39,6 +40,7 @@ pub fn measure_all(rivals: &[Rival]) {
         show(measure, rivals);
     }
     check_save::show();
+    search::show();
 }
 
 fn show(mut measure: Measure, rivals: &[Rival]) {
@@ -142,12 +144,8 @@ mod tests {
                 [first - 1, first, first + 5, end - 1, end]
             });
             for device in edges.chain([0, DEVICE_LIMIT]).map(DeviceAddress) {
-                let answer = bench.look_up(device).map_err(|error| plain::Refusal {
-                    code: error.refusal.number(),
-                    place: error.place,
-                });
                 let plain = plain::look_up(&world.state, bench.records(), device);
-                assert_eq!(plain, answer, "{device:?} among {held}");
+                assert_eq!(plain, bench.look_up(device), "{device:?} among {held}");
             }
         }
     }

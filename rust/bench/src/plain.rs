@@ -4,8 +4,8 @@
 
 use glintbasket::raw::{REGISTERS, SLOTS};
 use glintbasket::{
-    DeviceAddress, Location, Mapping, MemoryAddress, Register, Registers, Rights, State,
-    DEVICE_LIMIT, MEMORY_LIMIT, PAGE_SIZE, RECORDS_LIMIT, TRANSFER_LIMIT,
+    DeviceAddress, Location, LookUpError, Mapping, MemoryAddress, Register, Registers, Rights,
+    State, DEVICE_LIMIT, MEMORY_LIMIT, PAGE_SIZE, RECORDS_LIMIT, TRANSFER_LIMIT,
 };
 
 #[derive(Clone, Copy, Debug, PartialEq, Eq)]
@@ -276,21 +276,54 @@ pub fn host_load(
 }
 
 #[inline(never)]
-pub fn look_up(state: &State, records: &[Mapping], device: DeviceAddress) -> Answer<Location> {
+pub fn look_up(
+    state: &State,
+    records: &[Mapping],
+    device: DeviceAddress,
+) -> Result<Location, LookUpError> {
+    let refuse = |refusal, probes| {
+        let place = 0;
+        Err(LookUpError {
+            refusal,
+            place,
+            probes,
+        })
+    };
     if !sound(state, records) {
-        return refuse(1);
+        return refuse(glintbasket::Refusal::BadBench, None);
     }
     if device.0 >= DEVICE_LIMIT {
-        return refuse(9);
+        return refuse(glintbasket::Refusal::Range, None);
     }
-    match from(&records[..state.count], device).first() {
-        Some(m) if m.device <= device => Ok(Location {
+    let (found, probes) = search(&records[..state.count], device);
+    match found {
+        Some(m) => Ok(Location {
             address: MemoryAddress(m.memory.0 + (device.0 - m.device.0)),
             rights: m.rights,
             left: end_of(m) - device.0,
+            probes,
         }),
-        _ => refuse(14),
+        None => refuse(glintbasket::Refusal::Unmapped, Some(probes)),
     }
+}
+
+/// The mapping that holds a device address, and how many were looked at. The standard library's
+/// searches look at others, and do not say at how many.
+fn search(held: &[Mapping], device: DeviceAddress) -> (Option<&Mapping>, u64) {
+    let (mut low, mut high, mut probes) = (0, held.len(), 0);
+    while low < high {
+        let middle = (low + high) / 2;
+        let m = &held[middle];
+        probes += 1;
+        if device < m.device {
+            high = middle;
+        } else if device.0 < end_of(m) {
+            return (Some(m), probes);
+        } else {
+            low = middle + 1;
+        }
+    }
+    (None, probes)
 }
 
 // ---- map and unmap, each behind the checks of a request

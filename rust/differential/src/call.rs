@@ -59,6 +59,7 @@ pub enum Answer {
         address: u64,
         rights: u64,
         left: u64,
+        probes: u64,
     },
     Part {
         kind: u64,
@@ -71,6 +72,22 @@ pub enum Answer {
         code: u64,
         place: u64,
     },
+    /// A look-up refused with 14, the one refusal that tells how many places were looked at.
+    NotFound {
+        place: u64,
+        probes: u64,
+    },
+}
+
+impl Answer {
+    /// The number of a refusal.
+    pub fn refusal(&self) -> Option<u64> {
+        match *self {
+            Answer::Refused { code, .. } => Some(code),
+            Answer::NotFound { .. } => Some(14),
+            _ => None,
+        }
+    }
 }
 
 /// One step of a list.

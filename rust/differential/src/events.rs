@@ -14,7 +14,7 @@ const TOP: u64 = 1 << 48;
 const LONGEST: usize = 65_536;
 
 #[rustfmt::skip]
-pub const EVENTS: [&str; 74] = [
+pub const EVENTS: [&str; 86] = [
     "card read of 65,536 bytes accepted",
     "card write of 65,536 bytes accepted",
     "host store of 65,536 bytes accepted",
@@ -89,6 +89,18 @@ pub const EVENTS: [&str; 74] = [
     "look-up of a mapping's last byte",
     "look-up of the last byte of a mapping that another adjoins",
     "look-up with more than a page left in a mapping that another adjoins",
+    "look-up gives 14 among 0 mappings",
+    "look-up gives 14 among 1 mapping",
+    "look-up gives 14 among 2 mappings",
+    "look-up gives 14 among 64 mappings",
+    "look-up gives 14 among 4,096 mappings",
+    "look-up below all of several mappings",
+    "look-up between two mappings",
+    "look-up above all of several mappings",
+    "look-up finds the first mapping that it looks at, of several",
+    "look-up finds the last of 7 mappings that it looks at, among 64",
+    "look-up finds the last of 13 mappings that it looks at, among 4,096",
+    "look-up gives 14 after 13 mappings that it looks at, among 4,096",
 ];
 
 const FEW_MARKS: usize = 34;
@@ -115,6 +127,16 @@ const LOOK_UP_WITHIN: usize = 70;
 const LOOK_UP_LAST: usize = 71;
 const LOOK_UP_LAST_ADJOINED: usize = 72;
 const LOOK_UP_LONG_ADJOINED: usize = 73;
+/// Of a look-up that finds nothing: by the number of mappings held.
+const NOT_FOUND: usize = 74;
+const HELD: [usize; 5] = [0, 1, 2, 64, 4096];
+const BELOW_ALL: usize = 79;
+const BETWEEN: usize = 80;
+const ABOVE_ALL: usize = 81;
+const FOUND_AT_ONCE: usize = 82;
+const FOUND_LAST_OF_7: usize = 83;
+const FOUND_LAST_OF_13: usize = 84;
+const NOT_FOUND_AFTER_13: usize = 85;
 
 pub struct Events {
     counts: [u64; EVENTS.len()],
@@ -213,11 +235,8 @@ impl Events {
         let length = made.buffer.len();
         let noted = trio.state.noted_length;
         let field = |at| number_at(&made.buffer, at, 8);
-        let refused = match answer {
-            Answer::Refused { code, .. } => *code,
-            _ => 0,
-        };
-        let done = !matches!(answer, Answer::Refused { .. });
+        let done = answer.refusal().is_none();
+        let refused = answer.refusal().unwrap_or(0);
         let (records, held) = (made.lent.records, before.held);
         let by_records = RECORDS.iter().position(|length| *length == records);
         // The bits past the end, as the call left them.
@@ -323,9 +342,14 @@ impl Events {
                 self.saw(MOVED_DOWN, done && removed > 0 && above && held < records);
             }
             Call::LookUp { device } => {
-                self.saw(LOOK_UP_AMONG_ALL, done && held == 4096);
-                if let Answer::Found { left, .. } = *answer {
-                    self.found(device, left, trio.state.mappings());
+                let mappings = trio.state.mappings();
+                match *answer {
+                    Answer::Found { left, probes, .. } => {
+                        self.found_after(probes, held);
+                        self.found(device, left, mappings);
+                    }
+                    Answer::NotFound { probes, .. } => self.not_found(device, probes, mappings),
+                    _ => {}
                 }
             }
             Call::LoadParts => {
@@ -367,6 +391,14 @@ impl Events {
         }
     }
 
+    /// Of a look-up that looked at so many mappings of those held, and found the last of them.
+    fn found_after(&mut self, probes: u64, held: usize) {
+        self.saw(LOOK_UP_AMONG_ALL, held == 4096);
+        self.saw(FOUND_AT_ONCE, held > 1 && probes == 1);
+        self.saw(FOUND_LAST_OF_7, held == 64 && probes == 7);
+        self.saw(FOUND_LAST_OF_13, held == 4096 && probes == 13);
+    }
+
     /// Of a look-up that found a mapping with so many bytes left.
     fn found(&mut self, device: u64, left: u64, mappings: &[Mapping]) {
         let starts = |address| mappings.iter().any(|m| m.device.0 == address);
@@ -375,6 +407,19 @@ impl Events {
         self.saw(LOOK_UP_LAST, left == 1);
         self.saw(LOOK_UP_LAST_ADJOINED, left == 1 && adjoined);
         self.saw(LOOK_UP_LONG_ADJOINED, left > PAGE && adjoined);
+    }
+
+    /// Of a look-up that looked at so many of these mappings, and found none.
+    fn not_found(&mut self, device: u64, probes: u64, mappings: &[Mapping]) {
+        let held = mappings.len();
+        if let Some(i) = HELD.iter().position(|count| *count == held) {
+            self.saw(NOT_FOUND + i, true);
+        }
+        let below = mappings.iter().filter(|m| m.device.0 < device).count();
+        self.saw(BELOW_ALL, held > 1 && below == 0);
+        self.saw(BETWEEN, below > 0 && below < held);
+        self.saw(ABOVE_ALL, held > 1 && below == held);
+        self.saw(NOT_FOUND_AFTER_13, held == 4096 && probes == 13);
     }
 
     fn saw(&mut self, event: usize, happened: bool) {

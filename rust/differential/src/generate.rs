@@ -96,6 +96,11 @@ impl Generator {
             22..=33 => self.install(trio),
             // A list fills thousands of records by no other way.
             74..=113 if trio.records() > FEW => self.install(trio),
+            // Only thousands of mappings make a search long.
+            114..=153 if trio.records() > FEW => {
+                let device = self.looked_up(trio);
+                self.made(trio, Call::LookUp { device }, Vec::new())
+            }
             34..=37 => self.store_all(trio),
             58..=63 => Step::Stale {
                 seed: self.random.number(),
@@ -134,12 +139,12 @@ impl Generator {
             lent: lent(trio, noted),
             given: None,
         };
-        if self.random.one_in(40)
-            || (matches!(call, Call::FreshStart { .. }) && self.random.one_in(2))
-        {
+        // A fresh start looks at little else than at lengths.
+        let starts = matches!(call, Call::FreshStart { .. });
+        if self.random.one_in(if starts { 2 } else { 40 }) {
             (made.lent.memory, made.lent.marks) = self.wrong_lengths(noted, trio.capacity());
         }
-        if self.random.one_in(20) {
+        if self.random.one_in(if starts { 2 } else { 20 }) {
             made.lent.records = self.fewer_records(trio);
         }
         match self.random.below(100) {
@@ -157,11 +162,15 @@ impl Generator {
     /// A number of records near the count, or near the limit.
     fn fewer_records(&mut self, trio: &Trio) -> usize {
         let (all, count) = (trio.records(), trio.state.count as usize);
+        // Few lists have more than may be lent.
+        if all > RECORDS_LIMIT && self.random.one_in(3) {
+            return RECORDS_LIMIT + 1;
+        }
         let near = match self.random.below(8) {
             0..=1 => count.saturating_sub(1),
             2..=3 => count,
             4 => count + 1,
-            5 => self.random.pick(&[RECORDS_LIMIT - 1, RECORDS_LIMIT + 1]),
+            5 => RECORDS_LIMIT - 1,
             6 => self.random.below(all as u64 + 1) as usize,
             _ => all,
         };
@@ -306,7 +315,7 @@ impl Generator {
             0..=4 => (Call::FreshStart { card: self.card() }, Vec::new()),
             5..=309 => self.request(trio),
             310..=359 => {
-                let device = self.device(trio);
+                let device = self.looked_up(trio);
                 (Call::LookUp { device }, Vec::new())
             }
             360..=479 => {
@@ -385,6 +394,21 @@ impl Generator {
                 first.wrapping_add(page + random.pick(&[0, 0, 1, 15, 16, 64, 4080, 4095]))
             }
         }
+    }
+
+    /// Mostly any such address; else one where a search ends as late or as early as it can: at the
+    /// lowest mapping and just beside it, at the highest, at the one in the middle.
+    fn looked_up(&mut self, trio: &Trio) -> u64 {
+        let mappings = trio.state.mappings();
+        let share = if mappings.len() > FEW { 2 } else { 4 };
+        if mappings.is_empty() || !self.random.one_in(share) {
+            return self.device(trio);
+        }
+        let (middle, last) = (mappings.len() / 2, mappings.len() - 1);
+        let random = &mut self.random;
+        let m = mappings[random.pick(&[0, 0, middle, last])];
+        let (first, end) = (m.device.0, m.device.0.wrapping_add(m.size));
+        random.pick(&[first, end.wrapping_sub(1), first.wrapping_sub(1), end])
     }
 
     fn card_move(&mut self, trio: &Trio) -> (u64, usize) {

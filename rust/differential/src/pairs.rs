@@ -9,8 +9,11 @@ use crate::call::{Answer, Call};
 const DONE: usize = 0;
 /// The walker's end. Between the two stand the refusals by their numbers.
 const END: usize = 28;
+/// A look-up's 14 with no mapping held, so that nothing was looked at.
+const NONE_HELD: usize = 29;
 
-const ANSWERS: usize = 29;
+/// The last one stands for every other number.
+const ANSWERS: usize = 31;
 
 /// A call and its answers; after 1, in the order of its checks.
 type Row = (&'static str, &'static [usize]);
@@ -28,7 +31,7 @@ pub const ROWS: [Row; 24] = [
     ("device 108",            &[DONE, 1, 3, 4, 6]),
     ("device 109",            &[DONE, 1, 3, 4, 6]),
     ("device 111 reset",      &[DONE, 1]),
-    ("look-up",               &[DONE, 1, 9, 14]),
+    ("look-up",               &[DONE, 1, 9, 14, NONE_HELD]),
     ("card read",             &[DONE, 1, 13, 9, 14, 15, 16]),
     ("card write",            &[DONE, 1, 13, 9, 14, 15]),
     ("host store",            &[DONE, 1, 13, 9]),
@@ -92,6 +95,7 @@ fn shown(answer: usize) -> String {
     match answer {
         DONE => "done".to_string(),
         END => "end".to_string(),
+        NONE_HELD => "14 (none held)".to_string(),
         refusal => refusal.to_string(),
     }
 }
@@ -110,6 +114,8 @@ impl Pairs {
             Answer::Done(_) | Answer::Found { .. } | Answer::Part { .. } => DONE,
             Answer::End => END,
             Answer::Refused { code, .. } => code as usize,
+            Answer::NotFound { probes: 0, .. } => NONE_HELD,
+            Answer::NotFound { .. } => 14,
         };
         self.counts[row_of(call)][column.min(ANSWERS - 1)] += 1;
     }

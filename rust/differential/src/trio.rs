@@ -231,7 +231,7 @@ impl Trio {
             )
         })?;
         same_records("record", &left.records, &state.records)?;
-        let refused = matches!(answer, Answer::Refused { .. });
+        let refused = answer.refusal().is_some();
         check(!refused || *left == before, || {
             "a refused call changed the struct of the state, or a record".to_string()
         })?;

@@ -73,6 +73,7 @@ fn bytes_left_beyond_the_mapping_are_found() {
                 address,
                 rights,
                 left,
+                probes,
             },
         ) => {
             let end = device + left;
@@ -81,9 +82,24 @@ fn bytes_left_beyond_the_mapping_are_found() {
                 address,
                 rights,
                 left: left + next.map_or(0, |m| m.size),
+                probes,
             }
         }
         (_, other) => other,
+    });
+    // A fresh start or a state, two maps, and the look-up.
+    assert!(difference.shortened().len() <= 4, "{}", difference.report());
+}
+
+/// As if the search stopped one place early, which shows only where nothing is found.
+#[test]
+fn a_wrong_count_of_a_look_up_is_found() {
+    let difference = first_difference(|_, answer, _| match answer {
+        Answer::NotFound { place, probes } if probes > 0 => Answer::NotFound {
+            place,
+            probes: probes - 1,
+        },
+        other => other,
     });
     assert!(difference.shortened().len() <= 3, "{}", difference.report());
 }

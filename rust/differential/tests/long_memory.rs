@@ -67,6 +67,7 @@ fn memory_may_have_2_to_the_30_bytes_and_not_one_more() {
         address: LIMIT as u64 - 1,
         rights: 3,
         left: 1,
+        probes: 1,
     };
     assert_eq!(both(look_up, LIMIT, &mut [], &mut []), found);
     assert_eq!(both(look_up, LIMIT + 1, &mut [], &mut []), refused);

@@ -3,10 +3,10 @@
 use crate::address::{DeviceAddress, MemoryAddress, Rights};
 use crate::builder::Builder;
 use crate::card::Card;
-use crate::error::Result;
+use crate::error::{LookUpError, Result};
 use crate::lent::Lent;
 use crate::raw::{self, Mapping, State};
-use std::fmt;
+use std::{fmt, result};
 
 /// How many bytes the marks of so many bytes of memory take: eight marks to a byte.
 ///
@@ -40,6 +40,8 @@ pub struct Location {
     pub rights: Rights,
     /// How far that mapping runs on: the bytes from the device address to its end, at least 1. It ends there also where another adjoins.
     pub left: u64,
+    /// How many mappings the search looked at: at most as many as the number held has binary digits, 13 for 4,096.
+    pub probes: u64,
 }
 
 /// The host side of VFIO, with one device: memory with a mark for each byte that somebody wrote, a table of DMA mappings, and the
@@ -198,9 +200,9 @@ impl<'m> Bench<'m> {
         .answer()
     }
 
-    /// Look-up: where a device address lies in memory, and how far its mapping runs on from there.
+    /// Look-up: where a device address lies in memory, how far its mapping runs on from there, and how many mappings were looked at.
     ///
-    /// Refused: `BadBench`, `Range`, `Unmapped`.
+    /// Refused: `BadBench`, `Range`, `Unmapped`; with the last the error has the number of mappings looked at, too.
     ///
     /// A range of device addresses, run by run:
     ///
@@ -224,14 +226,38 @@ impl<'m> Bench<'m> {
     ///     Ok(())
     /// }
     /// ```
-    pub fn look_up(&self, device: DeviceAddress) -> Result<Location> {
+    ///
+    /// What it costs, for a trace:
+    ///
+    /// ```
+    /// use glintbasket::{DeviceAddress, Error, MemoryAddress, OwnedBench, Refusal, Rights};
+    ///
+    /// fn main() -> Result<(), Error> {
+    ///     let mut bench = OwnedBench::with_memory(vec![0; 4096])?;
+    ///     for device in [0x1000, 0x2000, 0x3000] {
+    ///         bench.map(MemoryAddress(0), DeviceAddress(device), 4096, Rights::READ)?;
+    ///     }
+    ///     // The mapping in the middle is looked at first.
+    ///     assert_eq!(bench.look_up(DeviceAddress(0x2000))?.probes, 1);
+    ///     assert_eq!(bench.look_up(DeviceAddress(0x3000))?.probes, 2);
+    ///
+    ///     let error = bench.look_up(DeviceAddress(0x4000)).unwrap_err();
+    ///     assert_eq!((error.refusal, error.probes), (Refusal::Unmapped, Some(2)));
+    ///     assert_eq!(error.to_string(), "refused 14 Unmapped at 0 probes 2");
+    ///     Ok(())
+    /// }
+    /// ```
+    pub fn look_up(&self, device: DeviceAddress) -> result::Result<Location, LookUpError> {
         let found = raw::look_up(&self.state, &self.records, device);
-        found.outcome.answer()?;
-        Ok(Location {
-            address: found.address,
-            rights: found.rights,
-            left: found.left,
-        })
+        match found.outcome.answer() {
+            Ok(_) => Ok(Location {
+                address: found.address,
+                rights: found.rights,
+                left: found.left,
+                probes: found.probes,
+            }),
+            Err(error) => Err(LookUpError::new(error, found.probes)),
+        }
     }
 
     /// Card read: fills `buffer` from a device address on.

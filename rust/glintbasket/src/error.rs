@@ -130,6 +130,48 @@ impl std::error::Error for Error {}
 /// What a call gives.
 pub type Result<T> = std::result::Result<T, Error>;
 
+/// Why [`Bench::look_up`](crate::Bench::look_up) found nothing: an [`Error`], which it turns into, and what the search cost.
+#[derive(Clone, Copy, Debug, PartialEq, Eq, Hash)]
+pub struct LookUpError {
+    /// Why: `BadBench`, `Range` or `Unmapped`.
+    pub refusal: Refusal,
+    /// Where: 0, since there is one address.
+    pub place: u64,
+    /// With `Unmapped`, how many mappings the search looked at. No other refusal has a number: nothing was looked at.
+    pub probes: Option<u64>,
+}
+
+impl LookUpError {
+    pub(crate) fn new(error: Error, probes: u64) -> LookUpError {
+        LookUpError {
+            refusal: error.refusal,
+            place: error.place,
+            probes: (error.refusal == Refusal::Unmapped).then_some(probes),
+        }
+    }
+}
+
+impl From<LookUpError> for Error {
+    fn from(error: LookUpError) -> Error {
+        Error {
+            refusal: error.refusal,
+            place: error.place,
+        }
+    }
+}
+
+impl fmt::Display for LookUpError {
+    fn fmt(&self, f: &mut fmt::Formatter<'_>) -> fmt::Result {
+        Error::from(*self).fmt(f)?;
+        match self.probes {
+            Some(probes) => write!(f, " probes {probes}"),
+            None => Ok(()),
+        }
+    }
+}
+
+impl std::error::Error for LookUpError {}
+
 impl Outcome {
     /// The result, or the refusal.
     pub(crate) fn answer(self) -> Result<u64> {

@@ -110,7 +110,7 @@ pub use bench::{marks_len, Bench, Location, OwnedBench, Target};
 pub use builder::Builder;
 pub use card::Card;
 pub use check_save::{check_save, SaveCheck};
-pub use error::{Error, Refusal, Result};
+pub use error::{Error, LookUpError, Refusal, Result};
 pub use parts::{Part, Parts, PART_HEADER};
 #[doc(inline)]
 pub use raw::{Mapping, Register, Registers, State};

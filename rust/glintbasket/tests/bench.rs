@@ -4,8 +4,9 @@ mod common;
 
 use common::{bench, refused, GARBAGE, PAGE};
 use glintbasket::{
-    marks_len, Bench, Card, DeviceAddress, Location, Mapping, MemoryAddress, OwnedBench, Refusal,
-    Result, Rights, DEFAULT_RECORDS, DEVICE_LIMIT, MEMORY_LIMIT, RECORDS_LIMIT, TRANSFER_LIMIT,
+    marks_len, Bench, Card, DeviceAddress, Error, Location, LookUpError, Mapping, MemoryAddress,
+    OwnedBench, Refusal, Result, Rights, DEFAULT_RECORDS, DEVICE_LIMIT, MEMORY_LIMIT,
+    RECORDS_LIMIT, TRANSFER_LIMIT,
 };
 
 // ---- making a bench
@@ -140,7 +141,7 @@ fn resume_goes_on_from_a_state_with_other_records() {
     assert_eq!(bench.mappings().len(), 2);
     assert_eq!(
         bench.look_up(DeviceAddress(0)),
-        refused(Refusal::BadBench, 0)
+        not_found(Refusal::BadBench, None)
     );
 }
 
@@ -154,7 +155,7 @@ fn resume_of_an_unsound_state_is_refused_by_every_call_but_power_on() {
     assert_eq!(bench.stop(), refused(Refusal::BadBench, 0));
     assert_eq!(
         bench.look_up(DeviceAddress(0)),
-        refused(Refusal::BadBench, 0)
+        not_found(Refusal::BadBench, None)
     );
     assert_eq!(bench.api_version(), refused(Refusal::BadBench, 0));
     assert_eq!(bench.state().count, 4);
@@ -227,7 +228,10 @@ fn records_past_the_count_keep_what_they_held() {
     assert_eq!(bench.unmap(b.device, 2 * PAGE), Ok(2 * PAGE));
     assert_eq!(bench.mappings(), [a, d]);
     assert_eq!(bench.records(), [a, d, c, d, STALE, STALE]);
-    assert_eq!(bench.look_up(c.device), refused(Refusal::Unmapped, 0));
+    assert_eq!(
+        bench.look_up(c.device),
+        not_found(Refusal::Unmapped, Some(2))
+    );
     bench.power_on().unwrap();
     assert_eq!(bench.mappings(), []);
     assert_eq!(records, [a, d, c, d, STALE, STALE]);
@@ -286,6 +290,7 @@ fn look_up_gives_address_rights_and_bytes_left() {
         address: MemoryAddress(PAGE + 7),
         rights: both,
         left: PAGE - 7,
+        probes: 1,
     };
     assert_eq!(found, Ok(location));
 }
@@ -303,17 +308,74 @@ fn look_up_counts_to_the_end_of_the_mapping_alone() {
     assert_eq!(devices.map(left), [2 * PAGE, 2 * PAGE - 1, 1, PAGE, 1]);
 }
 
+/// The answer of a look-up that is refused.
+fn not_found(refusal: Refusal, probes: Option<u64>) -> std::result::Result<Location, LookUpError> {
+    let place = 0;
+    Err(LookUpError {
+        refusal,
+        place,
+        probes,
+    })
+}
+
 #[test]
 fn look_up_refuses() {
     let bench = bench(1);
     assert_eq!(
         bench.look_up(DeviceAddress(0)),
-        refused(Refusal::Unmapped, 0)
+        not_found(Refusal::Unmapped, Some(0))
     );
     assert_eq!(
         bench.look_up(DeviceAddress(DEVICE_LIMIT)),
-        refused(Refusal::Range, 0)
+        not_found(Refusal::Range, None)
     );
+}
+
+/// Rule 4.12, by the number of mappings held: what is looked at for the lowest one and below it, and for the highest one and above it.
+#[test]
+fn look_up_counts_the_mappings_that_it_looks_at() {
+    let cases = [
+        (1, 1, 1),
+        (2, 2, 1),
+        (3, 2, 2),
+        (64, 7, 6),
+        (65, 7, 6),
+        (RECORDS_LIMIT as u64, 13, 12),
+    ];
+    for (held, lowest, highest) in cases {
+        let memory = vec![GARBAGE; PAGE as usize];
+        let mut bench = Bench::builder()
+            .record_count(RECORDS_LIMIT)
+            .own(memory)
+            .unwrap();
+        for page in 1..=held {
+            map_page(&mut bench, page * PAGE).unwrap();
+        }
+        let at = |page| bench.look_up(DeviceAddress(page * PAGE));
+        assert_eq!(at(0), not_found(Refusal::Unmapped, Some(lowest)));
+        assert_eq!(at(held + 1), not_found(Refusal::Unmapped, Some(highest)));
+        let probes = [1, held / 2 + 1, held].map(|page| at(page).unwrap().probes);
+        assert_eq!(probes, [lowest, 1, highest], "{held} held");
+    }
+}
+
+#[test]
+fn a_refused_look_up_is_an_error_like_any_other() {
+    let bench = bench(1);
+    let look_up = |device| -> Result<Location> { Ok(bench.look_up(DeviceAddress(device))?) };
+    assert_eq!(look_up(0), refused(Refusal::Unmapped, 0));
+    assert_eq!(look_up(DEVICE_LIMIT), refused(Refusal::Range, 0));
+
+    let shown = |device| {
+        bench
+            .look_up(DeviceAddress(device))
+            .unwrap_err()
+            .to_string()
+    };
+    assert_eq!(shown(0), "refused 14 Unmapped at 0 probes 0");
+    assert_eq!(shown(DEVICE_LIMIT), "refused 9 Range at 0");
+    let error = bench.look_up(DeviceAddress(0)).unwrap_err();
+    assert_eq!(Error::from(error).to_string(), "refused 14 Unmapped at 0");
 }
 
 // ---- card reads and writes

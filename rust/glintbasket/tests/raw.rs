@@ -30,13 +30,14 @@ fn refused(code: u32, place: u64) -> Outcome {
     }
 }
 
-/// A look-up that is refused: all else is 0.
-fn not_found(code: u32) -> Found {
+/// A look-up that is refused: all else but the probes is 0.
+fn not_found(code: u32, probes: u64) -> Found {
     Found {
         outcome: refused(code, 0),
         address: MemoryAddress(0),
         rights: Rights(0),
         left: 0,
+        probes,
     }
 }
 
@@ -76,12 +77,16 @@ fn memory_and_the_table_cross() {
         address: MemoryAddress(4100),
         rights: Rights(3),
         left: 4092,
+        probes: 1,
     };
     assert_eq!(found, expected);
-    assert_eq!(look_up(&state, &records, DeviceAddress(0)), not_found(14));
+    assert_eq!(
+        look_up(&state, &records, DeviceAddress(0)),
+        not_found(14, 1)
+    );
     assert_eq!(
         look_up(&state, &[], DeviceAddress(0x10004)),
-        not_found(1),
+        not_found(1, 0),
         "fewer records than are in use"
     );
 

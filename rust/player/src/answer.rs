@@ -1,6 +1,6 @@
 //! What a call answered, and how it is printed.
 
-use glintbasket::{Error, Location, SaveCheck};
+use glintbasket::{Error, Location, LookUpError, SaveCheck};
 use std::fmt;
 
 /// What a call answered.
@@ -9,7 +9,7 @@ pub enum Answer {
     Done(u64),
     /// Success of a call that writes to its buffer.
     Filled(u64, Vec<u8>),
-    Found(Location),
+    LookedUp(Result<Location, LookUpError>),
     Part {
         kind: u16,
         flags: u8,
@@ -27,9 +27,20 @@ impl fmt::Display for Answer {
         match self {
             Answer::Done(result) => write!(f, "ok {result}"),
             Answer::Filled(result, bytes) => write!(f, "ok {result} : {}", Pairs(bytes)),
-            Answer::Found(location) => {
+            Answer::LookedUp(Ok(location)) => {
                 let (address, rights) = (location.address.0, location.rights.0);
-                write!(f, "ok {address} rights {rights} left {}", location.left)
+                let (left, probes) = (location.left, location.probes);
+                write!(
+                    f,
+                    "ok {address} rights {rights} left {left} probes {probes}"
+                )
+            }
+            Answer::LookedUp(Err(error)) => {
+                write!(f, "{}", Answer::Refused((*error).into()))?;
+                match error.probes {
+                    Some(probes) => write!(f, " probes {probes}"),
+                    None => Ok(()),
+                }
             }
             Answer::Part {
                 kind,
@@ -92,9 +103,26 @@ mod tests {
             address: MemoryAddress(0x1010),
             rights: Rights(3),
             left: 0xff0,
+            probes: 0xc,
         };
-        let text = "ok 4112 rights 3 left 4080";
-        assert_eq!(Answer::Found(location).to_string(), text);
+        let text = "ok 4112 rights 3 left 4080 probes 12";
+        assert_eq!(Answer::LookedUp(Ok(location)).to_string(), text);
+    }
+
+    #[test]
+    fn a_refused_look_up_has_probes_if_it_looked() {
+        let refused = |refusal, probes| {
+            let place = 0;
+            let error = LookUpError {
+                refusal,
+                place,
+                probes,
+            };
+            Answer::LookedUp(Err(error)).to_string()
+        };
+        let unmapped = refused(Refusal::Unmapped, Some(12));
+        assert_eq!(unmapped, "refused 14 Unmapped at 0 probes 12");
+        assert_eq!(refused(Refusal::Range, None), "refused 9 Range at 0");
     }
 
     #[test]

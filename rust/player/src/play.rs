@@ -139,7 +139,7 @@ impl<'m> Player<'m> {
                 number,
                 buffer,
             } => self.request(*target, *number, buffer),
-            Call::LookUp(device) => bench.look_up(*device).map(Answer::Found),
+            Call::LookUp(device) => Ok(Answer::LookedUp(bench.look_up(*device))),
             Call::CardRead(device, length) => {
                 let mut buffer = vec![self.garbage; *length];
                 bench.device_read(*device, &mut buffer)?;

@@ -85,6 +85,8 @@ memory 0x2000
 
 request container map flags=3 memory=0x1000 device=0x10000 size=0x1000
 look-up 0x10010
+look-up 0x11000
+look-up 0x1000000000000
 host-store 0x1010 \"hi\"
 card-read 0x10010 2
 card-read 0x10010 0
@@ -110,29 +112,31 @@ request 7 100 -
 
 const EVERY_OUTCOME_PLAYED: &str = "\
 3: ok 0
-4: ok 4112 rights 3 left 4080
-5: ok 0
-6: ok 0 : 68 69
-7: ok 0 : -
-8: refused 16 Unwritten at 2
-9: ok 0
-10: ok 0 : 68 69 21
+4: ok 4112 rights 3 left 4080 probes 1
+5: refused 14 Unmapped at 0 probes 1
+6: refused 9 Range at 0
+7: ok 0
+8: ok 0 : 68 69
+9: ok 0 : -
+10: refused 16 Unwritten at 2
 11: ok 0
-12: ok 0
-13: ok 1 : 0f
-14: ok 41 : 00 01 01 00 00 00 00 00 00 00 00 00 08 00 00 00 00 00 00 30 01 00 00 00 \
+12: ok 0 : 68 69 21
+13: ok 0
+14: ok 0
+15: ok 1 : 0f
+16: ok 41 : 00 01 01 00 00 00 00 00 00 00 00 00 08 00 00 00 00 00 00 30 01 00 00 00 \
 03 01 00 00 00 00 00 00 00 00 00 00 01 00 00 00 0f
-15: ok 0
-16: refused 17 Running at 0
 17: ok 0
-18: refused 24 Missing at 0
-19: ok 0 : 10 00 00 00 03 00 00 00 09 00 00 00 04 00 00 00
-20: ok 0
-21: ok 0
-22: part 0x103 flags 0 selector 0 next 17 : 0f
-23: end
-24: refused 18 Truncated at 18
-25: refused 2 NoSuchRequest at 0
+18: refused 17 Running at 0
+19: ok 0
+20: refused 24 Missing at 0
+21: ok 0 : 10 00 00 00 03 00 00 00 09 00 00 00 04 00 00 00
+22: ok 0
+23: ok 0
+24: part 0x103 flags 0 selector 0 next 17 : 0f
+25: end
+26: refused 18 Truncated at 18
+27: refused 2 NoSuchRequest at 0
 ";
 
 #[test]
@@ -316,8 +320,8 @@ last refused byte: line 2, refused 14 Unmapped at 0: device address 0x5, in no m
     assert_run(&run(&["show", &session]), 0, expected, "");
 }
 
-#[test]
-fn show_of_thousands_of_mappings_is_short() {
+/// Maps as many pages as there may be mappings, each apart from the next.
+fn thousands_of_mappings() -> String {
     let mut text = "memory 0x1000000 mappings 4096\n".to_string();
     for i in 0..4096 {
         let (memory, device, flags) = (i * 7 % 4096 * 4096, i * 8192, 1 + i % 3);
@@ -325,6 +329,26 @@ fn show_of_thousands_of_mappings_is_short() {
             "request container map flags={flags} memory={memory} device={device} size=4096 => ok 0\n"
         );
     }
+    text
+}
+
+#[test]
+fn a_look_up_among_thousands_of_mappings_looks_at_13_of_them_at_most() {
+    let mut text = thousands_of_mappings();
+    text += "look-up 0 => ok 0 rights 1 left 4096 probes 13\n";
+    text += "look-up 4096 => refused 14 Unmapped at 0 probes 13\n";
+    text += "look-up 0x1000000 => ok 8388608 rights 3 left 4096 probes 1\n";
+    text += "look-up 0x1ffe000 => ok 16748544 rights 1 left 4096 probes 12\n";
+    text += "look-up 0x1fff000 => refused 14 Unmapped at 0 probes 12\n";
+    let output = run(&["play", &file("probes.session", &text)]);
+    let played = String::from_utf8(output.stdout).unwrap();
+    assert!(!played.contains("expected"), "{played}");
+    assert_eq!(output.status.code(), Some(0));
+}
+
+#[test]
+fn show_of_thousands_of_mappings_is_short() {
+    let mut text = thousands_of_mappings();
     text += "request container map flags=1 device=4096 size=4096 => refused 11 NoRoom at 0\n";
     let session = file("thousands.session", &text);
     let svg = path("thousands.svg");

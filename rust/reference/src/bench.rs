@@ -295,7 +295,7 @@ mod tests {
             request(&mut state, &memory, &marks, 0, 999, &mut []),
             request(&mut state, &memory, &marks, 0, 112, &mut []),
             request(&mut state, &memory, &marks, 1, 111, &mut []),
-            look_up(&state, device).map(|_| 0),
+            look_up(&state, device).map(|_| 0).map_err(|e| e.refused),
             card_read(&state, &memory, &marks, device, buffer),
             card_write(&state, &mut memory, &mut marks, device, &[]),
             host_store(&state, &mut memory, &mut marks, address, &[9]),

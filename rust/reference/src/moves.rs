@@ -1,6 +1,8 @@
 //! Look-up, card read and write, host store and load, forget.
 
-use crate::answer::{refuse_if, Answer, Refusal};
+use std::fmt;
+
+use crate::answer::{refuse_if, Answer, Refusal, Refused};
 use crate::bench::{
     is_written, mark, DeviceAddress, Mapping, MemoryAddress, State, DEVICE_LIMIT, LENGTH_LIMIT,
     READ, WRITE,
@@ -28,17 +30,71 @@ pub struct Found {
     pub rights: u64,
     /// How many device addresses the mapping holds from this one on, itself among them.
     pub left: u64,
+    /// How many places were looked at.
+    pub probes: u64,
+}
+
+/// Why a look-up is refused; 14 alone says how many places were looked at (rule 4.13).
+#[derive(Clone, Copy, Debug, PartialEq, Eq)]
+pub struct NotFound {
+    pub refused: Refused,
+    pub probes: Option<u64>,
+}
+
+impl From<Refused> for NotFound {
+    fn from(refused: Refused) -> NotFound {
+        NotFound {
+            refused,
+            probes: None,
+        }
+    }
+}
+
+impl fmt::Display for NotFound {
+    fn fmt(&self, f: &mut fmt::Formatter) -> fmt::Result {
+        write!(f, "{}", self.refused)?;
+        match self.probes {
+            Some(probes) => write!(f, " probes {probes}"),
+            None => Ok(()),
+        }
+    }
+}
+
+/// The places of the table that a look-up looks at, in turn (rule 4.12). Which mapping it finds is
+/// not asked here: at most one holds the address.
+fn places_looked_at(mappings: &[Mapping], address: u128) -> Vec<usize> {
+    let mut places = Vec::new();
+    // From lo up to but not including hi.
+    let (mut lo, mut hi) = (0, mappings.len());
+    while lo != hi {
+        let place = (lo + hi) / 2;
+        places.push(place);
+        let range = mappings[place].range();
+        if address < range.first {
+            hi = place;
+        } else if address >= range.end {
+            lo = place + 1;
+        } else {
+            break;
+        }
+    }
+    places
 }
 
 /// Takes no memory and marks, asks for no right, and gives 14 at 0.
-pub fn look_up(state: &State, device: DeviceAddress) -> Answer<Found> {
+pub fn look_up(state: &State, device: DeviceAddress) -> Result<Found, NotFound> {
     state.check_sound()?;
     refuse_if(device.whole() >= DEVICE_LIMIT, Refusal::Range)?;
-    let mapping = holder(state, device.whole()).ok_or(Refusal::Unmapped)?;
+    let probes = places_looked_at(state.mappings(), device.whole()).len() as u64;
+    let mapping = holder(state, device.whole()).ok_or(NotFound {
+        refused: Refusal::Unmapped.into(),
+        probes: Some(probes),
+    })?;
     Ok(Found {
         memory: shown(mapping, device.whole()),
         rights: mapping.rights,
         left: mapping.size - distance(mapping, device.whole()),
+        probes,
     })
 }
 
@@ -258,11 +314,19 @@ mod tests {
         Err(Refused { refusal, place })
     }
 
-    fn found(memory: u64, rights: u64, left: u64) -> Answer<Found> {
+    fn found(memory: u64, rights: u64, left: u64, probes: u64) -> Result<Found, NotFound> {
         Ok(Found {
             memory: MemoryAddress(memory),
             rights,
             left,
+            probes,
+        })
+    }
+
+    fn not_found(refusal: Refusal, probes: Option<u64>) -> Result<Found, NotFound> {
+        Err(NotFound {
+            refused: refusal.into(),
+            probes,
         })
     }
 
@@ -271,12 +335,12 @@ mod tests {
     fn look_up_gives_memory_address_and_rights() {
         let state = bench(8_192, &[(4_096, 0, 4_096, 2), (0, LIMIT - 4_096, 4_096, 1)]).state;
         let at = |device| look_up(&state, DeviceAddress(device));
-        assert_eq!(at(0), found(4_096, 2, 4_096));
-        assert_eq!(at(4_095), found(8_191, 2, 1));
-        assert_eq!(at(4_096), refused(Refusal::Unmapped, 0));
-        assert_eq!(at(LIMIT - 1), found(4_095, 1, 1));
-        assert_eq!(at(LIMIT), refused(Refusal::Range, 0));
-        assert_eq!(at(u64::MAX), refused(Refusal::Range, 0));
+        assert_eq!(at(0), found(4_096, 2, 4_096, 2));
+        assert_eq!(at(4_095), found(8_191, 2, 1, 2));
+        assert_eq!(at(4_096), not_found(Refusal::Unmapped, Some(2)));
+        assert_eq!(at(LIMIT - 1), found(4_095, 1, 1, 1));
+        assert_eq!(at(LIMIT), not_found(Refusal::Range, None));
+        assert_eq!(at(u64::MAX), not_found(Refusal::Range, None));
     }
 
     /// Rule 4.11: to the end of its own mapping, though the next one adjoins and memory goes on.
@@ -284,11 +348,72 @@ mod tests {
     fn look_up_says_how_far_the_mapping_runs_on() {
         let state = bench(12_288, &[(0, 4_096, 8_192, 3), (8_192, 12_288, 4_096, 3)]).state;
         let at = |device| look_up(&state, DeviceAddress(device));
-        assert_eq!(at(4_096), found(0, 3, 8_192));
-        assert_eq!(at(8_191), found(4_095, 3, 4_097));
-        assert_eq!(at(12_287), found(8_191, 3, 1));
-        assert_eq!(at(12_288), found(8_192, 3, 4_096));
-        assert_eq!(at(16_383), found(12_287, 3, 1));
+        assert_eq!(at(4_096), found(0, 3, 8_192, 2));
+        assert_eq!(at(8_191), found(4_095, 3, 4_097, 2));
+        assert_eq!(at(12_287), found(8_191, 3, 1, 2));
+        assert_eq!(at(12_288), found(8_192, 3, 4_096, 1));
+        assert_eq!(at(16_383), found(12_287, 3, 1, 1));
+    }
+
+    /// So many mappings of a page each, at pages 1, 3, 5, .. of the device.
+    fn pages_apart(held: u64) -> Vec<Mapping> {
+        let page = |i| Mapping {
+            memory: MemoryAddress(0),
+            device: DeviceAddress(4_096 * (2 * i + 1)),
+            size: 4_096,
+            rights: 1,
+        };
+        (0..held).map(page).collect()
+    }
+
+    /// Rule 4.12, by hand: where it stops at a mapping, and where lo meets hi.
+    #[test]
+    fn places_are_looked_at_by_halving() {
+        let places = |held, page: u128| places_looked_at(&pages_apart(held), page * 4_096);
+        assert_eq!(places(0, 0), []);
+        assert_eq!([0, 1, 2].map(|page| places(1, page)), [[0], [0], [0]]);
+        assert_eq!([0, 1, 2].map(|page| places(2, page)), [[1, 0]; 3]);
+        assert_eq!([3, 4].map(|page| places(2, page)), [[1]; 2]);
+        assert_eq!(places(3, 3), [1]);
+        assert_eq!(places(3, 4), [1, 2]);
+
+        let (low, high) = ([32, 16, 8, 4, 2, 1, 0], [32, 48, 56, 60, 62, 63]);
+        assert_eq!([0, 1].map(|page| places(64, page)), [low; 2]);
+        assert_eq!([127, 128].map(|page| places(64, page)), [high; 2]);
+        assert_eq!(places(64, 65), [32]);
+        assert_eq!(places(64, 64), [32, 16, 24, 28, 30, 31]);
+    }
+
+    /// Rule 4.12: as many as the number held has binary digits are enough, and are needed.
+    #[test]
+    fn the_most_places_looked_at_are_the_digits_of_the_number_held() {
+        for (held, most) in [(1, 1), (2, 2), (3, 2), (4, 3), (63, 6), (64, 7), (65, 7)] {
+            let mappings = pages_apart(held);
+            let pages = 0..=2 * u128::from(held);
+            let counts = pages.map(|page| places_looked_at(&mappings, page * 4_096).len());
+            assert_eq!(counts.max(), Some(most), "{held} held");
+        }
+        let mappings = pages_apart(4_096);
+        let count = |page: u128| places_looked_at(&mappings, page * 4_096).len();
+        assert_eq!([0, 8_192].map(count), [13, 12]);
+    }
+
+    /// Rules 4.12 and 4.13: a count on success and with 14, whatever is held; none with 1.
+    #[test]
+    fn refusal_14_of_a_look_up_alone_has_a_count() {
+        let at = |state: &State, device| look_up(state, DeviceAddress(device));
+        let mut state = State::fresh(4_096);
+        assert_eq!(at(&state, 0), not_found(Refusal::Unmapped, Some(0)));
+        state.records = pages_apart(64);
+        state.count = 64;
+        assert_eq!(at(&state, 0), not_found(Refusal::Unmapped, Some(7)));
+        assert_eq!(
+            at(&state, 128 * 4_096),
+            not_found(Refusal::Unmapped, Some(6))
+        );
+        assert_eq!(at(&state, 4_097), found(1, 1, 4_095, 7));
+        state.count = 65;
+        assert_eq!(at(&state, 0), not_found(Refusal::BadBench, None));
     }
 
     /// Rule 7.12: 16 at 1.

@@ -59,7 +59,7 @@ const EVERY_OUTCOME_PRINTED: &str = "\
 5: ok 0 : -
 6: refused 16 Unwritten at 2
 7: ok 0 : 61
-8: ok 4095 rights 3 left 1
+8: ok 4095 rights 3 left 1 probes 1
 9: ok 0
 10: refused 16 Unwritten at 0
 11: ok 0
@@ -106,10 +106,11 @@ fn the_option_overrides_the_files_garbage() {
 
 #[test]
 fn an_expectation_that_is_not_met_is_shown_and_playing_goes_on() {
-    let session = "memory 0\nstop => ok  1\nstart =>\tok 0\nlook-up 0 => refused 14 Unmapped\n";
+    let session =
+        "memory 0\nstop => ok  1\nstart =>\tok 0\nlook-up 0 => refused 14 Unmapped at 0\n";
     let played = run(&["play", &file("expected", session)]);
     let expected = "2: ok 0\n2: expected ok 1\n3: ok 0\n\
-                    4: refused 14 Unmapped at 0\n4: expected refused 14 Unmapped\n";
+                    4: refused 14 Unmapped at 0 probes 0\n4: expected refused 14 Unmapped at 0\n";
     assert_eq!(played.out, expected);
     assert_eq!((played.status, played.err.as_str()), (1, ""));
 }

@@ -74,15 +74,22 @@ fn told(outcome: Outcome) -> Answer {
 }
 
 fn found(found: &Found) -> Answer {
-    match told(found.outcome) {
-        Answer::Done(0) => Answer::Found {
-            address: found.address.0,
-            rights: u64::from(found.rights.0),
-            left: found.left,
-        },
+    let (address, rights) = (found.address.0, u64::from(found.rights.0));
+    let (left, probes) = (found.left, found.probes);
+    let answer = told(found.outcome);
+    if answer == Answer::Done(0) {
+        return Answer::Found {
+            address,
+            rights,
+            left,
+            probes,
+        };
+    }
+    assert_eq!((address, rights, left), (0, 0, 0), "{found:?}");
+    match answer {
+        Answer::Refused { code: 14, place } => Answer::NotFound { place, probes },
         other => {
-            let numbers = (found.address.0, found.rights.0, found.left);
-            assert_eq!(numbers, (0, 0, 0), "{found:?}");
+            assert_eq!(probes, 0, "{found:?}");
             other
         }
     }

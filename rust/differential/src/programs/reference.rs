@@ -2,7 +2,8 @@
 
 use glint_reference::answer::Refused;
 use glint_reference::bench::{self, DeviceAddress, MemoryAddress};
-use glint_reference::{moves, parts, registers, requests};
+use glint_reference::moves::{self, NotFound};
+use glint_reference::{parts, registers, requests};
 
 use crate::call::{Answer, Call};
 
@@ -35,16 +36,7 @@ fn with_all_records(
             let (target, number) = (u64::from(target), u64::from(number));
             requests::request(state, memory, marks, target, number, buffer)
         }
-        Call::LookUp { device } => {
-            return match moves::look_up(state, DeviceAddress(device)) {
-                Ok(found) => Answer::Found {
-                    address: found.memory.0,
-                    rights: found.rights,
-                    left: found.left,
-                },
-                Err(refused) => refusal(refused),
-            }
-        }
+        Call::LookUp { device } => return look_up(state, DeviceAddress(device)),
         Call::CardRead { device } => {
             moves::card_read(state, memory, marks, DeviceAddress(device), buffer)
         }
@@ -82,6 +74,26 @@ fn refusal(refused: Refused) -> Answer {
     Answer::Refused {
         code: refused.refusal.number(),
         place: refused.place,
+    }
+}
+
+fn look_up(state: &bench::State, device: DeviceAddress) -> Answer {
+    match moves::look_up(state, device) {
+        Ok(found) => Answer::Found {
+            address: found.memory.0,
+            rights: found.rights,
+            left: found.left,
+            probes: found.probes,
+        },
+        Err(NotFound { refused, probes }) => match (refusal(refused), probes) {
+            (Answer::Refused { code: 14, place }, Some(probes)) => {
+                Answer::NotFound { place, probes }
+            }
+            (other, probes) => {
+                assert_eq!(probes, None, "{other:?}");
+                other
+            }
+        },
     }
 }
 

@@ -94,7 +94,7 @@ pub struct Outcome {
     pub result: u64,
 }
 
-/// Look-up's answer. Where it is refused, all else is 0.
+/// Look-up's answer. Where it is refused, all else is 0, but for the probes of an [`Unmapped`](crate::Refusal::Unmapped) address.
 #[repr(C)]
 #[derive(Clone, Copy, Debug, PartialEq, Eq)]
 pub struct Found {
@@ -106,6 +106,8 @@ pub struct Found {
     pub rights: Rights,
     /// The bytes from the device address to the end of that mapping.
     pub left: u64,
+    /// How many mappings the search looked at.
+    pub probes: u64,
 }
 
 /// A step's answer: a refusal; the end of the stream; or a part.
@@ -179,9 +181,10 @@ const _: () = {
     assert!(offset_of!(State, running) == 478);
     assert!(offset_of!(State, words) == 479);
     assert!(size_of::<Outcome>() == 24);
-    assert!(size_of::<Found>() == 48);
+    assert!(size_of::<Found>() == 56);
     assert!(offset_of!(Found, address) == 24);
     assert!(offset_of!(Found, rights) == 32);
     assert!(offset_of!(Found, left) == 40);
+    assert!(offset_of!(Found, probes) == 48);
     assert!(size_of::<PartStep>() == 56);
 };

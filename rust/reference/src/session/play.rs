@@ -8,7 +8,9 @@ use crate::bench::{
     fresh_start, mark_bytes, start, stop, DeviceAddress, Mapping, MemoryAddress, State,
 };
 use crate::check_save::{check_save, SaveCheck};
-use crate::moves::{card_read, card_write, forget, host_load, host_store, look_up, Found};
+use crate::moves::{
+    card_read, card_write, forget, host_load, host_store, look_up, Found, NotFound,
+};
 use crate::parts::{load_parts, save_parts, step};
 use crate::registers::{read_register, set_register};
 use crate::requests::{listed, request};
@@ -63,14 +65,7 @@ impl Player {
                 number,
                 buffer,
             } => self.request(*target, *number, buffer),
-            Call::LookUp { device } => match look_up(&self.state, DeviceAddress(*device)) {
-                Ok(Found {
-                    memory,
-                    rights,
-                    left,
-                }) => format!("ok {} rights {rights} left {left}", memory.0),
-                Err(refused) => refused.to_string(),
-            },
+            Call::LookUp { device } => looked_up(look_up(&self.state, DeviceAddress(*device))),
             Call::CardRead { device, length } => {
                 let device = DeviceAddress(*device);
                 let mut buffer = self.buffer(*length);
@@ -154,6 +149,18 @@ impl Player {
             }
             _ => number(answer),
         }
+    }
+}
+
+fn looked_up(answer: Result<Found, NotFound>) -> String {
+    match answer {
+        Ok(Found {
+            memory: MemoryAddress(address),
+            rights,
+            left,
+            probes,
+        }) => format!("ok {address} rights {rights} left {left} probes {probes}"),
+        Err(not_found) => not_found.to_string(),
     }
 }
 
