@@ -1,4 +1,2 @@
 pub mod Places
-pub mod Walks
-pub mod Held
-pub mod Thin
+pub mod Contracts

@@ -7,3 +7,6 @@ pub mod Kept
 pub mod Walk
 pub mod Items
 pub mod Lent
+pub mod Holders
+pub mod Laid
+pub mod Fields
