@@ -64,14 +64,14 @@ enum glint_refusal {
     GLINT_NO_SUCH_REQUEST = 2, /* the target has no request of this number */
     GLINT_SHORT = 3,           /* buffer shorter than the request's size */
     GLINT_ARG_SIZE = 4,        /* argsz below the request's size or above the buffer's length */
-    GLINT_FLAGS = 5,           /* flags not allowed */
+    GLINT_FLAGS = 5,           /* flags not allowed; an IOMMU type that there is not, or that a container with a mapping cannot take */
     GLINT_INDEX = 6,           /* no such region, interrupt, queue or field; place in a stream: start of the part */
     GLINT_UNALIGNED = 7,       /* an address or size is no multiple of 4,096 */
     GLINT_EMPTY = 8,           /* size 0 */
     GLINT_RANGE = 9,           /* past 2^48, or past the end of memory */
     GLINT_OVERLAP = 10,        /* shares a device address with a held mapping */
     GLINT_NO_ROOM = 11,        /* every lent record is in use */
-    GLINT_CUTS = 12,           /* the range holds some but not all of a mapping */
+    GLINT_CUTS = 12,           /* the range holds some but not all of a mapping; never with GLINT_TYPE1_IOMMU */
     GLINT_TOO_LONG = 13,       /* transfer or stream over 65,536 bytes */
     GLINT_UNMAPPED = 14,       /* place: first faulty offset */
     GLINT_NO_RIGHT = 15,       /* place: first faulty offset */
@@ -165,8 +165,9 @@ typedef struct glint_state {
     uint64_t memory_length;
     size_t count; /* how many of the lent records are in use */
     glint_registers registers;
-    uint8_t running; /* 1: the device runs; every other value: it does not */
-    uint8_t words;   /* which card it is, by the 64-bit words of its features: 1 or 2; every other value: not sound */
+    uint8_t running;     /* 1: the device runs; every other value: it does not */
+    uint8_t words;       /* which card it is, by the 64-bit words of its features: 1 or 2; every other value: not sound */
+    uint32_t iommu_type; /* the container's: GLINT_TYPE1_IOMMU or GLINT_TYPE1V2_IOMMU; every other value: not sound */
 } glint_state;
 
 /* ---- answers */
@@ -214,11 +215,12 @@ GLINT_ASSERT(offsetof(glint_mapping, size) == 16);
 GLINT_ASSERT(offsetof(glint_mapping, rights) == 24);
 GLINT_ASSERT(sizeof(glint_register) == 33);
 GLINT_ASSERT(sizeof(glint_registers) == 462);
-GLINT_ASSERT(sizeof(glint_state) == 480);
+GLINT_ASSERT(sizeof(glint_state) == 488);
 GLINT_ASSERT(offsetof(glint_state, count) == 8);
 GLINT_ASSERT(offsetof(glint_state, registers) == 16);
 GLINT_ASSERT(offsetof(glint_state, running) == 478);
 GLINT_ASSERT(offsetof(glint_state, words) == 479);
+GLINT_ASSERT(offsetof(glint_state, iommu_type) == 480);
 GLINT_ASSERT(sizeof(glint_outcome) == 24);
 GLINT_ASSERT(sizeof(glint_found) == 56);
 GLINT_ASSERT(offsetof(glint_found, address) == 24);
@@ -241,8 +243,9 @@ GLINT_ASSERT(sizeof(glint_part_step) == 56);
  */
 
 /*
- * Fresh start: all marks 0, memory bytes untouched, the memory's length noted, no mapping, the device stopped and reset. The first is that
- * of the card with 64 feature bits, the second of the card with 128. No record is looked at or changed.
+ * Fresh start: all marks 0, memory bytes untouched, the memory's length noted, no mapping, the container of GLINT_TYPE1V2_IOMMU, the device
+ * stopped and reset. The first is that of the card with 64 feature bits, the second of the card with 128. No record is looked at or
+ * changed.
  */
 glint_outcome glint_power_on(glint_state *state, const glint_mapping *records, size_t records_length, const uint8_t *memory,
                              size_t memory_length, uint8_t *marks, size_t marks_length);
@@ -326,6 +329,7 @@ uint64_t glint_check_save_128(const uint8_t *stream, size_t stream_length);
 /* Requests of the container: the low byte of the kernel's VFIO_* request. */
 #define GLINT_GET_API_VERSION 100u
 #define GLINT_CHECK_EXTENSION 101u
+#define GLINT_SET_IOMMU 102u
 #define GLINT_IOMMU_GET_INFO 112u
 #define GLINT_IOMMU_MAP_DMA 113u
 #define GLINT_IOMMU_UNMAP_DMA 114u
@@ -336,8 +340,12 @@ uint64_t glint_check_save_128(const uint8_t *stream, size_t stream_length);
 #define GLINT_DEVICE_GET_IRQ_INFO 109u
 #define GLINT_DEVICE_RESET 111u
 
-/* The extension that GLINT_CHECK_EXTENSION answers with 1. */
-#define GLINT_TYPE1V2_IOMMU 3u
+/*
+ * IOMMU types of a container, with the kernel's numbers: what GLINT_SET_IOMMU takes, and the extensions that GLINT_CHECK_EXTENSION answers
+ * with 1. They differ in what an unmap removes (glint_bench_unmap).
+ */
+#define GLINT_TYPE1_IOMMU 1u   /* older containers */
+#define GLINT_TYPE1V2_IOMMU 3u /* as a fresh start leaves it */
 
 /* The requests' buffers, laid out as the kernel's structs. Fields that a comment calls output are not read. */
 
@@ -353,7 +361,7 @@ typedef struct glint_dma_unmap {
     uint32_t argsz;
     uint32_t flags;
     glint_device_address device;
-    uint64_t size; /* in: the range's; out: the sum of the sizes of removed mappings */
+    uint64_t size; /* in: the range's; out: the sum of the sizes of removed mappings, which may exceed it with GLINT_TYPE1_IOMMU */
 } glint_dma_unmap;
 
 typedef struct glint_iommu_info {
@@ -535,10 +543,19 @@ static inline glint_outcome glint_bench_api_version(glint_bench *bench)
     return glint_bench_request(bench, GLINT_CONTAINER, GLINT_GET_API_VERSION, NULL, 0);
 }
 
-/* The result is 1 for GLINT_TYPE1V2_IOMMU, else 0. */
+/* The result is 1 for GLINT_TYPE1_IOMMU and GLINT_TYPE1V2_IOMMU, else 0. */
 static inline glint_outcome glint_bench_check_extension(glint_bench *bench, uint32_t extension)
 {
     return glint_bench_request(bench, GLINT_CONTAINER, GLINT_CHECK_EXTENSION, &extension, sizeof extension);
+}
+
+/*
+ * Makes the container one of an IOMMU type, until the next fresh start; a reset of the device keeps it. Refused (5) for a number that is no
+ * such type, and while a mapping is held, also with the type that it is of.
+ */
+static inline glint_outcome glint_bench_set_iommu(glint_bench *bench, uint32_t iommu_type)
+{
+    return glint_bench_request(bench, GLINT_CONTAINER, GLINT_SET_IOMMU, &iommu_type, sizeof iommu_type);
 }
 
 /* The calls that fill a struct work on a copy: a refusal leaves the caller's. */
@@ -560,7 +577,12 @@ static inline glint_outcome glint_bench_map(glint_bench *bench, glint_memory_add
     return glint_bench_request(bench, GLINT_CONTAINER, GLINT_IOMMU_MAP_DMA, &map, sizeof map);
 }
 
-/* Removes every mapping inside the range. `removed`, if not null, gets the sum of their sizes; a refusal leaves it. */
+/*
+ * Removes mappings, by the container's IOMMU type. GLINT_TYPE1V2_IOMMU: every one inside the range; refused (12) where one lies there in
+ * part. GLINT_TYPE1_IOMMU: every one that begins in the range, whole, also where it ends beyond; none at all where one begins before the
+ * range and holds its start. `removed`, if not null, gets the sum of their sizes, which may be 0 and, with GLINT_TYPE1_IOMMU, above `size`;
+ * a refusal leaves it.
+ */
 static inline glint_outcome glint_bench_unmap(glint_bench *bench, glint_device_address device, uint64_t size, uint64_t *removed)
 {
     glint_dma_unmap unmap = {sizeof unmap, 0, device, size};

@@ -57,6 +57,7 @@ SAME_FIELD(vfio_irq_info, count, glint_irq_info, count, 12);
 
 SAME_NUMBER(GET_API_VERSION);
 SAME_NUMBER(CHECK_EXTENSION);
+SAME_NUMBER(SET_IOMMU);
 SAME_NUMBER(IOMMU_GET_INFO);
 SAME_NUMBER(IOMMU_MAP_DMA);
 SAME_NUMBER(IOMMU_UNMAP_DMA);
@@ -65,7 +66,7 @@ SAME_NUMBER(DEVICE_GET_REGION_INFO);
 SAME_NUMBER(DEVICE_GET_IRQ_INFO);
 SAME_NUMBER(DEVICE_RESET);
 
-_Static_assert(VFIO_TYPE1v2_IOMMU == GLINT_TYPE1V2_IOMMU, "extension");
+_Static_assert(VFIO_TYPE1_IOMMU == GLINT_TYPE1_IOMMU && VFIO_TYPE1v2_IOMMU == GLINT_TYPE1V2_IOMMU, "IOMMU types");
 _Static_assert(VFIO_DMA_MAP_FLAG_READ == GLINT_READ && VFIO_DMA_MAP_FLAG_WRITE == GLINT_WRITE, "rights");
 
 // ---- checks
@@ -140,6 +141,9 @@ static bool fence_holds(const struct fenced *fenced)
 
 enum { PAGE = 4096, RECORDS = 64 };
 
+// The bytes of a state that are fields: behind them stands padding, which a copy need not keep.
+enum { STATE_BYTES = offsetof(glint_state, iommu_type) + sizeof(uint32_t) };
+
 static struct fenced memory, marks, buffer;
 static struct {
     glint_mapping before, records[GLINT_RECORDS_LIMIT + 1], behind;
@@ -200,6 +204,25 @@ static glint_outcome unmap(uint64_t iova, uint64_t size, uint64_t *removed)
     return outcome;
 }
 
+// A request whose buffer is one number, which it leaves.
+static glint_outcome number_request(uint32_t target, unsigned long kernel_number, uint32_t number)
+{
+    uint32_t arg = number;
+    glint_outcome outcome = request(target, kernel_number, &arg, sizeof arg);
+    CHECK(arg == number);
+    return outcome;
+}
+
+static glint_outcome check_extension(uint32_t extension)
+{
+    return number_request(GLINT_CONTAINER, VFIO_CHECK_EXTENSION, extension);
+}
+
+static glint_outcome set_iommu(uint32_t iommu_type)
+{
+    return number_request(GLINT_CONTAINER, VFIO_SET_IOMMU, iommu_type);
+}
+
 static glint_outcome device_read(uint64_t iova, size_t length)
 {
     glint_outcome outcome = glint_bench_device_read(&bench, glint_device(iova), fill(&buffer, length), length);
@@ -242,15 +265,18 @@ static void power_on(void)
     CHECK(bench.state.memory_length == ROOM);
     CHECK(bench.state.count == 0);
     CHECK(bench.state.running == 0);
+    CHECK(bench.state.iommu_type == VFIO_TYPE1v2_IOMMU);
     CHECK(marked(0, ROOM, 0));
     CHECK(all_filler(fenced_bytes(&memory), ROOM));
 
+    CHECK_DONE(set_iommu(VFIO_TYPE1_IOMMU), 0);
     CHECK_DONE(map(0, 0, PAGE, GLINT_READ), 0);
     CHECK_DONE(glint_bench_host_write(&bench, glint_memory(5), "x", 1), 0);
     CHECK_DONE(glint_bench_start(&bench), 0);
     CHECK_DONE(glint_bench_power_on(&bench), 0);
     CHECK(bench.state.count == 0);
     CHECK(bench.state.running == 0);
+    CHECK(bench.state.iommu_type == VFIO_TYPE1v2_IOMMU);
     CHECK(marked(0, ROOM, 0));
     CHECK(fenced_bytes(&memory)[5] == 'x');
     // The record that was in use is stale now, and holds what it held.
@@ -304,13 +330,14 @@ static void container(void)
 {
     fresh_bench();
     CHECK_DONE(glint_bench_request(&bench, GLINT_CONTAINER, _IOC_NR(VFIO_GET_API_VERSION), NULL, 0), VFIO_API_VERSION);
-    uint32_t extension = VFIO_TYPE1v2_IOMMU;
-    CHECK_DONE(request(GLINT_CONTAINER, VFIO_CHECK_EXTENSION, &extension, sizeof extension), 1);
-    extension = VFIO_TYPE1_IOMMU;
-    CHECK_DONE(request(GLINT_CONTAINER, VFIO_CHECK_EXTENSION, &extension, sizeof extension), 0);
-    CHECK_REFUSED(request(GLINT_CONTAINER, VFIO_CHECK_EXTENSION, &extension, 3), GLINT_SHORT, 0);
-    CHECK_REFUSED(request(GLINT_DEVICE, VFIO_CHECK_EXTENSION, &extension, sizeof extension), GLINT_NO_SUCH_REQUEST, 0);
-    CHECK_REFUSED(request(2, VFIO_GET_API_VERSION, &extension, sizeof extension), GLINT_NO_SUCH_REQUEST, 0);
+    CHECK_DONE(check_extension(VFIO_TYPE1v2_IOMMU), 1);
+    CHECK_DONE(check_extension(VFIO_TYPE1_IOMMU), 1);
+    CHECK_DONE(check_extension(VFIO_SPAPR_TCE_IOMMU), 0);
+    CHECK_DONE(check_extension(VFIO_TYPE1_IOMMU | 1u << 24), 0);
+    uint32_t number = VFIO_TYPE1_IOMMU;
+    CHECK_REFUSED(request(GLINT_CONTAINER, VFIO_CHECK_EXTENSION, &number, 3), GLINT_SHORT, 0);
+    CHECK_REFUSED(number_request(GLINT_DEVICE, VFIO_CHECK_EXTENSION, number), GLINT_NO_SUCH_REQUEST, 0);
+    CHECK_REFUSED(number_request(2, VFIO_GET_API_VERSION, number), GLINT_NO_SUCH_REQUEST, 0);
 }
 
 static void iommu_info(void)
@@ -362,7 +389,7 @@ static void map_and_look_up(void)
     CHECK_REFUSED(map(2 * PAGE, 0, 2 * PAGE, GLINT_READ), GLINT_RANGE, 0);
     CHECK_REFUSED(map(0, UINT64_C(0xfffffffffffff000), PAGE, GLINT_READ), GLINT_RANGE, 0);
     CHECK_REFUSED(map(0, top - PAGE, 2 * PAGE, GLINT_READ), GLINT_OVERLAP, 0);
-    CHECK_BYTES(&bench.state, &before, sizeof before);
+    CHECK_BYTES(&bench.state, &before, STATE_BYTES);
 }
 
 // A mapping runs on to its own end, also where another adjoins, and whatever memory stands behind the two.
@@ -519,6 +546,162 @@ static void unmap_ranges(void)
     CHECK(removed == 1);
     CHECK_DONE(glint_bench_unmap(&bench, glint_device(PAGE), PAGE, &removed), 0);
     CHECK(removed == PAGE);
+}
+
+// Numbers that are no IOMMU type; in those with a high byte, the low one is.
+static const uint32_t no_types[] = {0, VFIO_SPAPR_TCE_IOMMU, 4, 0x101, 0x103, 0x10003, 0x1000001, 0x3000000, 0x80000003, UINT32_MAX};
+
+// An older driver: it asks for Type1, takes it, maps, and gives back all that it mapped.
+static void older_driver(void)
+{
+    uint64_t removed;
+    fresh_bench();
+    CHECK_DONE(check_extension(VFIO_TYPE1_IOMMU), 1);
+    CHECK_DONE(set_iommu(VFIO_TYPE1_IOMMU), 0);
+    CHECK(bench.state.iommu_type == VFIO_TYPE1_IOMMU);
+    CHECK_DONE(map(PAGE, 0x10000, 2 * PAGE, GLINT_READ | GLINT_WRITE), 0);
+    CHECK_DONE(glint_bench_host_write(&bench, glint_memory(PAGE), "go", 2), 0);
+    CHECK_DONE(device_read(0x10000, 2), 0);
+    CHECK_BYTES(fenced_bytes(&buffer), "go", 2);
+    CHECK_REFUSED(device_read(0x10000, 3), GLINT_UNWRITTEN, 2);
+
+    // From the second page on: the mapping begins before, so it stays. From the first on, it goes whole.
+    CHECK_DONE(unmap(0x10000 + PAGE, PAGE, &removed), 0);
+    CHECK(removed == 0 && bench.state.count == 1);
+    CHECK_DONE(device_read(0x10000, 2), 0);
+    CHECK_DONE(unmap(0x10000, PAGE, &removed), 0);
+    CHECK(removed == 2 * PAGE && bench.state.count == 0);
+    CHECK_REFUSED(device_read(0x10000, 2), GLINT_UNMAPPED, 0);
+}
+
+// The container's type stays while a mapping is held, and is no other than the two.
+static void set_iommu_types(void)
+{
+    static const uint32_t types[] = {VFIO_TYPE1_IOMMU, VFIO_TYPE1v2_IOMMU};
+    uint64_t removed;
+    fresh_bench();
+    for (size_t i = 0; i < GLINT_COUNT(types); i++) {
+        CHECK_DONE(set_iommu(types[i]), 0);
+        CHECK_DONE(set_iommu(types[i]), 0);
+        for (size_t other = 0; other < GLINT_COUNT(no_types); other++)
+            CHECK_REFUSED(set_iommu(no_types[other]), GLINT_FLAGS, 0);
+        CHECK(bench.state.iommu_type == types[i] && bench.state.count == 0);
+
+        CHECK_DONE(map_page(1), 0);
+        CHECK_REFUSED(set_iommu(VFIO_TYPE1_IOMMU), GLINT_FLAGS, 0);
+        CHECK_REFUSED(set_iommu(VFIO_TYPE1v2_IOMMU), GLINT_FLAGS, 0);
+        CHECK(bench.state.iommu_type == types[i] && bench.state.count == 1);
+        CHECK_DONE(unmap(PAGE, PAGE, &removed), 0);
+    }
+
+    // Four bytes are the number: fewer are too short, and one more is not looked at.
+    uint8_t longer[5] = {VFIO_TYPE1_IOMMU, 0, 0, 0, FILLER};
+    CHECK_REFUSED(request(GLINT_CONTAINER, VFIO_SET_IOMMU, longer, 3), GLINT_SHORT, 0);
+    CHECK_REFUSED(number_request(GLINT_DEVICE, VFIO_SET_IOMMU, VFIO_TYPE1_IOMMU), GLINT_NO_SUCH_REQUEST, 0);
+    CHECK(bench.state.iommu_type == VFIO_TYPE1v2_IOMMU);
+    CHECK_DONE(request(GLINT_CONTAINER, VFIO_SET_IOMMU, longer, sizeof longer), 0);
+    CHECK(bench.state.iommu_type == VFIO_TYPE1_IOMMU);
+
+    CHECK_DONE(glint_bench_check_extension(&bench, GLINT_TYPE1_IOMMU), 1);
+    CHECK_DONE(glint_bench_set_iommu(&bench, GLINT_TYPE1V2_IOMMU), 0);
+    CHECK(bench.state.iommu_type == VFIO_TYPE1v2_IOMMU);
+    CHECK_REFUSED(glint_bench_set_iommu(&bench, 2), GLINT_FLAGS, 0);
+}
+
+// What keeps the type, and what makes of it another one.
+static void kept_iommu_type(void)
+{
+    fresh_bench();
+    CHECK_DONE(set_iommu(VFIO_TYPE1_IOMMU), 0);
+    CHECK_DONE(glint_bench_request(&bench, GLINT_DEVICE, _IOC_NR(VFIO_DEVICE_RESET), NULL, 0), 0);
+    CHECK(bench.state.iommu_type == VFIO_TYPE1_IOMMU);
+    CHECK_DONE(glint_bench_power_on_128(&bench), 0);
+    CHECK(bench.state.iommu_type == VFIO_TYPE1v2_IOMMU);
+
+    for (size_t i = 0; i < GLINT_COUNT(no_types); i++) {
+        bench.state.iommu_type = no_types[i];
+        CHECK_REFUSED(glint_bench_stop(&bench), GLINT_BAD_BENCH, 0);
+        CHECK_NOT_FOUND(0, GLINT_BAD_BENCH, 0);
+        CHECK_REFUSED(device_read(0, 0), GLINT_BAD_BENCH, 0);
+        CHECK_REFUSED(check_extension(VFIO_TYPE1_IOMMU), GLINT_BAD_BENCH, 0);
+        CHECK_REFUSED(set_iommu(VFIO_TYPE1_IOMMU), GLINT_BAD_BENCH, 0);
+        CHECK(bench.state.iommu_type == no_types[i]);
+    }
+    CHECK_DONE(glint_bench_power_on(&bench), 0);
+    CHECK(bench.state.iommu_type == VFIO_TYPE1v2_IOMMU);
+}
+
+// What an unmap gives: 12, or the size field, in pages; and how many of three mappings are left.
+struct unmapped {
+    bool cuts;
+    uint64_t pages;
+    size_t left;
+};
+
+// Of pages 0 to 2, page 3 and pages 5 and 6, each a mapping, an unmap of pages in a container of a type.
+static void check_unmap(uint32_t iommu_type, uint64_t page, uint64_t pages, struct unmapped want)
+{
+    uint64_t field;
+    fresh_bench();
+    CHECK_DONE(set_iommu(iommu_type), 0);
+    CHECK_DONE(map(0, 0, 3 * PAGE, GLINT_READ), 0);
+    CHECK_DONE(map(0, 3 * PAGE, PAGE, GLINT_READ), 0);
+    CHECK_DONE(map(0, 5 * PAGE, 2 * PAGE, GLINT_READ), 0);
+    const glint_outcome is = unmap(page * PAGE, pages * PAGE, &field);
+    // A refusal leaves the size field as it was given.
+    const uint64_t reported = want.cuts ? pages : want.pages;
+    if (is.refused == want.cuts && is.code == (want.cuts ? GLINT_CUTS : 0) && field == reported * PAGE && bench.state.count == want.left)
+        return;
+    fprintf(stderr, "type %u: unmap of %llu pages from page %llu on: refused %d code %u, size field %llu, %zu left\n", iommu_type,
+            (unsigned long long)pages, (unsigned long long)page, is.refused, is.code, (unsigned long long)field, bench.state.count);
+    faults++;
+}
+
+#define CUT {true, 0, 3}
+#define GONE(pages, left) {false, (pages), (left)}
+
+// The same unmaps in containers of both types.
+static void unmap_by_type(void)
+{
+    static const struct {
+        uint64_t page, pages;
+        struct unmapped type1v2, type1;
+    } cases[] = {
+        {0, 3, GONE(3, 2), GONE(3, 2)}, // a mapping
+        {0, 1, CUT, GONE(3, 2)},        // its first page: it begins at the range's start and goes whole
+        {1, 1, CUT, GONE(0, 3)},        // its second: it encloses the range, and blocks
+        {2, 1, CUT, GONE(0, 3)},        // its last
+        {2, 5, CUT, GONE(0, 3)},        // and all behind it, which stays, too
+        {3, 1, GONE(1, 2), GONE(1, 2)}, // it ends at the range's start, and does not block
+        {4, 1, GONE(0, 3), GONE(0, 3)}, // another begins at the range's end
+        {4, 2, CUT, GONE(2, 2)},        // it begins in the range and ends beyond
+        {0, 6, CUT, GONE(6, 0)},        // so does the last of three
+        {0, 7, GONE(6, 0), GONE(6, 0)},
+        {7, 1, GONE(0, 3), GONE(0, 3)},
+    };
+    for (size_t i = 0; i < GLINT_COUNT(cases); i++) {
+        check_unmap(VFIO_TYPE1v2_IOMMU, cases[i].page, cases[i].pages, cases[i].type1v2);
+        check_unmap(VFIO_TYPE1_IOMMU, cases[i].page, cases[i].pages, cases[i].type1);
+    }
+}
+
+// What goes under Type1 is a run of records; the rest moves down, and records past the count keep what they held.
+static void stale_records_type1(void)
+{
+    uint64_t removed;
+    fresh_bench();
+    CHECK_DONE(set_iommu(VFIO_TYPE1_IOMMU), 0);
+    CHECK_DONE(map_page(1), 0);
+    CHECK_DONE(map(0, 2 * PAGE, 2 * PAGE, GLINT_READ), 0);
+    CHECK_DONE(map_page(4), 0);
+    CHECK_DONE(unmap(2 * PAGE, PAGE, &removed), 0);
+    CHECK(removed == 2 * PAGE && bench.state.count == 2 && stale(3, RECORDS));
+    CHECK(is_page(&bench.records[0], 1) && is_page(&bench.records[1], 4) && is_page(&bench.records[2], 4));
+    removed = 1;
+    CHECK_REFUSED(glint_bench_unmap(&bench, glint_device(PAGE), 0, &removed), GLINT_EMPTY, 0);
+    CHECK(removed == 1);
+    CHECK_DONE(glint_bench_unmap(&bench, glint_device(0), GLINT_DEVICE_LIMIT, &removed), 0);
+    CHECK(removed == 2 * PAGE);
 }
 
 static void device_reads(void)
@@ -694,13 +877,13 @@ static void save_and_load(void)
     CHECK_DONE(glint_bench_set_register(&bench, GLINT_COMMON_FIELD, 22, "\x01\x02", 2), 0);
     const glint_state given = bench.state;
     CHECK_REFUSED(glint_bench_load_parts(&bench, twice, sizeof twice), GLINT_TWICE, 17);
-    CHECK_BYTES(&bench.state, &given, sizeof given);
+    CHECK_BYTES(&bench.state, &given, STATE_BYTES);
     CHECK_DONE(glint_bench_save_parts(&bench, fill(&buffer, 64), 64), 59);
-    CHECK_BYTES(&bench.state, &given, sizeof given);
+    CHECK_BYTES(&bench.state, &given, STATE_BYTES);
     CHECK_DONE(glint_bench_load_parts(&bench, reset_saved, sizeof reset_saved), 0);
     CHECK(given.registers.slots[4].set == 1 && bench.state.registers.slots[4].set == 0);
     bench.state.registers = given.registers;
-    CHECK_BYTES(&bench.state, &given, sizeof given);
+    CHECK_BYTES(&bench.state, &given, STATE_BYTES);
     CHECK_DONE(glint_bench_load_parts(&bench, twice, 17), 0);
 
     CHECK_DONE(glint_bench_start(&bench), 0);
@@ -767,6 +950,7 @@ static void no_memory(void)
     CHECK_DONE(glint_bench_start(&empty), 0);
     CHECK_REFUSED(glint_bench_look_up(&empty, glint_device(0)).outcome, GLINT_UNMAPPED, 0);
     CHECK_DONE(glint_bench_check_extension(&empty, GLINT_TYPE1V2_IOMMU), 1);
+    CHECK_DONE(glint_bench_set_iommu(&empty, GLINT_TYPE1_IOMMU), 0);
     const uint8_t *value;
     size_t length;
     glint_walker walker = glint_walk(NULL, 0);
@@ -798,7 +982,7 @@ static void null_pointers(void)
     CHECK_REFUSED(glint_bench_save_parts(&bench, fill(&buffer, 64), 64), GLINT_NULL_POINTER, 0);
     CHECK_REFUSED(glint_bench_stop(&bench), GLINT_NULL_POINTER, 0);
     CHECK_REFUSED(glint_bench_start(&bench), GLINT_NULL_POINTER, 0);
-    CHECK(memcmp(&bench.state, &before, sizeof before) == 0);
+    CHECK_BYTES(&bench.state, &before, STATE_BYTES);
 
     static glint_bench half;
     uint8_t byte = FILLER;
@@ -918,7 +1102,8 @@ int main(void)
         TEST(unmap_ranges), TEST(device_reads),  TEST(device_writes), TEST(host_loads), TEST(device_info),   TEST(region_info),
         TEST(irq_info),     TEST(registers),     TEST(save_and_load), TEST(steps),      TEST(no_memory),     TEST(refusal_names),
         TEST(null_pointers), TEST(refused_info), TEST(flag_bytes), TEST(second_card), TEST(packed_marks),    TEST(lent_records),
-        TEST(stale_records), TEST(exchanged_records), TEST(bytes_left), TEST(probes),
+        TEST(stale_records), TEST(exchanged_records), TEST(bytes_left), TEST(probes), TEST(older_driver),    TEST(set_iommu_types),
+        TEST(kept_iommu_type), TEST(unmap_by_type), TEST(stale_records_type1),
     };
     const unsigned count = sizeof tests / sizeof *tests;
     unsigned failed = 0;

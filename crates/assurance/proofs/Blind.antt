@@ -31,7 +31,7 @@ use Rattle.memory.specs.Transfers.{unwrittenAt, unwrittenIn, hostWriteChecks, h
 use Rattle.dma.specs.Transfers.{readFault, transferChecks, deviceReadChecks, location, gather}
 use Rattle.emulator.specs.Machine.{Machine, Emulator, Given, memoryAlone, stateAlone, both, usable, lendable, asNoted}
 use Rattle.emulator.specs.Effect.{Effect, Outcome, effectOf, outcomeOf, writing}
-use Rattle.emulator.specs.Requests.{Request, getApiVersion, checkExtension, getIommuInfo, mapDma, unmapDma, getInfo, getRegionInfo, getIrqInfo, resetDevice, Entry, requests, entryIn, identify, inFields, inputOf, requestedMapping, requestedStart, requestedSize, requestedIndex, argszChecks, listedChecks, sizeChecks, requestChecks, listedEffect, requestEffect}
+use Rattle.emulator.specs.Requests.{Request, getApiVersion, checkExtension, setIommu, getIommuInfo, mapDma, unmapDma, getInfo, getRegionInfo, getIrqInfo, resetDevice, Entry, requests, entryIn, identify, inFields, inputOf, requestedType, requestedMapping, requestedStart, requestedSize, requestedIndex, argszChecks, listedChecks, sizeChecks, requestChecks, listedEffect, requestEffect}
 use Rattle.emulator.specs.Calls.{Call, powerOn, request, lookUp, deviceRead, deviceWrite, hostWrite, hostRead, invalidate, setRegister, readRegister, loadParts, saveParts, stop, start, given, input, ownChecks, checks, front, effect, probesOf, outcome}
 use Rattle.assurance.specs.Overwrite.{overwrite, mask}
 use Rattle.assurance.specs.Runs.{written}
@@ -65,6 +65,7 @@ usable-blind both e = simp length-mask
 unfoldable readsKept : (ℕ → Bool) → Request → Bool
 readsKept keep getApiVersion = true
 readsKept keep checkExtension = keeps keep 0 4
+readsKept keep setIommu = keeps keep 0 4
 readsKept keep getIommuInfo = true
 readsKept keep mapDma = keeps keep 4 4 and keeps keep 8 8 and keeps keep 16 8 and keeps keep 24 8
 readsKept keep unmapDma = keeps keep 4 4 and keeps keep 8 8 and keeps keep 16 8
@@ -95,9 +96,10 @@ module _ (keep : ℕ → Bool) (buf : List ℕ) (e : Emulator) where
       rw (field-kept keep buf 4 4 (c .0), field-kept keep buf 8 8 (c .1), field-kept keep buf 16 8 (b .1), field-kept keep buf 24 8 (a .1))
 
   listed-checks-blind : (q : Request) → readsKept keep q ≡ true → listedChecks q (mask keep buf) (seen e) ≡ listedChecks q buf e
-  unfolding readsKept listedChecks requestedStart requestedSize requestedIndex seen
+  unfolding readsKept listedChecks requestedType requestedStart requestedSize requestedIndex seen
   listed-checks-blind getApiVersion h = refl
   listed-checks-blind checkExtension h = refl
+  listed-checks-blind setIommu h = rw (field-kept keep buf 0 4 h)
   listed-checks-blind getIommuInfo h = refl
   listed-checks-blind mapDma h = rw (length-mask (written (e .memory)) (e .memory .bytes), mapping-blind h)
   listed-checks-blind unmapDma h =
@@ -110,9 +112,10 @@ module _ (keep : ℕ → Bool) (buf : List ℕ) (e : Emulator) where
   listed-checks-blind resetDevice h = refl
 
   listed-effect-blind : (q : Request) → readsKept keep q ≡ true → listedEffect q (mask keep buf) (seen e) ≡ listedEffect q buf e
-  unfolding readsKept listedEffect requestedStart requestedSize requestedIndex seen
+  unfolding readsKept listedEffect requestedType requestedStart requestedSize requestedIndex seen
   listed-effect-blind getApiVersion h = refl
   listed-effect-blind checkExtension h = rw (field-kept keep buf 0 4 h)
+  listed-effect-blind setIommu h = rw (field-kept keep buf 0 4 h)
   listed-effect-blind getIommuInfo h = refl
   listed-effect-blind mapDma h = rw (mapping-blind h)
   listed-effect-blind unmapDma h =

@@ -8,7 +8,7 @@ use Rattle.answer.specs.Limits.{lengthCheck}
 use Rattle.answer.specs.Answer.{Answer, refused, verdict}
 use Rattle.answer.specs.declared.Verdict.{Verdict}
 use Rattle.answer.specs.declared.Verdict.the-variants.{Pass, Fail}
-use Rattle.iommu.specs.Requests.{translateChecks, mapChecks, unmapChecks}
+use Rattle.iommu.specs.Requests.{translateChecks, setIommuChecks, mapChecks, unmapChecks}
 use Rattle.iommu.specs.declared.Translation.{Translation}
 use Rattle.iommu.specs.declared.Translation.the-variants.{At, Nowhere}
 use Rattle.iommu.specs.declared.Mapping.{Mapping}
@@ -26,7 +26,7 @@ use Rattle.parts.specs.declared.Step.{Step}
 use Rattle.parts.specs.declared.Step.the-variants.{Part, End, Refused}
 use Rattle.emulator.specs.Machine.{Emulator, emulatorOf}
 use Rattle.emulator.specs.Effect.{effectOf, outcomeOf, after, filled}
-use Rattle.emulator.specs.Requests.{Request, getApiVersion, checkExtension, getIommuInfo, mapDma, unmapDma, getInfo, getRegionInfo, getIrqInfo, resetDevice, Entry, argszChecks, listedChecks, sizeChecks, requestChecks}
+use Rattle.emulator.specs.Requests.{Request, getApiVersion, checkExtension, setIommu, getIommuInfo, mapDma, unmapDma, getInfo, getRegionInfo, getIrqInfo, resetDevice, Entry, argszChecks, listedChecks, sizeChecks, requestChecks}
 use Rattle.emulator.specs.Calls.{Call, powerOn, request, lookUp, deviceRead, deviceWrite, hostWrite, hostRead, invalidate, setRegister, readRegister, loadParts, saveParts, stop, start, ownChecks, checks, effect, outcome}
 use Rattle.emulator.specs.Contract.{Meets, returned, leftRecords}
 use Rattle.emulator.specs.declared.State.{State}
@@ -42,9 +42,10 @@ argsz-listed false size buf = search listing
 argsz-listed true size buf = search listing
 
 listed-listed : (q : Request) (buf : List ℕ) (e : Emulator) → Listed (listedChecks q buf e)
-unfolding listedChecks mapChecks unmapChecks
+unfolding listedChecks setIommuChecks mapChecks unmapChecks
 listed-listed getApiVersion buf e = search listing
 listed-listed checkExtension buf e = search listing
+listed-listed setIommu buf e = search listing
 listed-listed getIommuInfo buf e = search listing
 listed-listed mapDma buf e = search listing depth 10
 listed-listed unmapDma buf e = search listing depth 10

@@ -1,4 +1,5 @@
 -- The term of all demands.
+use Rattle.iommu.proofs.Requests.{remains}
 use Rattle.parts.proofs.RoundTrip.{round-trips}
 use Rattle.assurance.specs.Demands.{Demands}
 use Rattle.assurance.proofs.Demand1.{demand1}
@@ -16,6 +17,7 @@ demands =
       roundTrip = round-trips;
       saveLoad = save-load;
       starred = starred;
+      remains = remains;
       demand3 = demand3;
       sessions = sessions;
       equivalence = equivalence;

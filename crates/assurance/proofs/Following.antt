@@ -19,21 +19,21 @@ use Rattle.address.specs.Address.{memoryAddress, deviceOffset, memoryOffset}
 use Rattle.address.specs.declared.DeviceAddress.{DeviceAddress}
 use Rattle.wire.specs.Field.{slice}
 use Rattle.wire.proofs.Laws.{sets-all}
-use Rattle.iommu.specs.Table.{holds, translate, inside}
+use Rattle.iommu.specs.Table.{type1v2, holds, translate, removed}
 use Rattle.iommu.specs.Requests.{mapChecks}
 use Rattle.iommu.specs.declared.Mapping.{Mapping}
 use Rattle.iommu.specs.declared.Translation.{Translation}
 use Rattle.iommu.specs.declared.Translation.the-variants.{At, Nowhere}
-use Rattle.iommu.proofs.Lookup.{find, located, unless, translate-find, Apart, find-insert, free-find, find-without, without-apart, sound-apart}
+use Rattle.iommu.proofs.Lookup.{find, located, unless, translate-find, Apart, find-insert, free-find, find-without, without-apart, removed-same, sound-apart}
 use Rattle.memory.specs.Shadow.{initialized, marks, shadowLength}
 use Rattle.memory.specs.Memory.{Memory, edited, byteAt, bytesFrom}
 use Rattle.memory.proofs.Marks.{initialized-below}
 use Rattle.dma.specs.Transfers.{readFault, writeFault, deviceReadChecks, deviceWriteChecks, location, gather}
 use Rattle.dma.proofs.Gather.{gather-length}
 use Rattle.registers.specs.declared.Card.{Card}
-use Rattle.emulator.specs.Machine.{Machine, Emulator, both, usable, lendable, sound, soundMappings, poweredOn, withMappings, withRegisters, withRunning}
+use Rattle.emulator.specs.Machine.{Machine, Emulator, both, usable, lendable, sound, soundMappings, poweredOn, withMappings, withRegisters, withRunning, withIommuType}
 use Rattle.emulator.specs.Effect.{Result, value, Effect, Outcome, effectOf, outcomeOf, after, filled}
-use Rattle.emulator.specs.Requests.{Request, getApiVersion, checkExtension, getIommuInfo, mapDma, unmapDma, getInfo, getRegionInfo, getIrqInfo, resetDevice, Entry, identify, requestedMapping, requestedStart, requestedSize, listedChecks, sizeChecks, requestChecks, listedEffect, requestEffect}
+use Rattle.emulator.specs.Requests.{Request, getApiVersion, checkExtension, setIommu, getIommuInfo, mapDma, unmapDma, getInfo, getRegionInfo, getIrqInfo, resetDevice, Entry, identify, requestedMapping, requestedStart, requestedSize, listedChecks, sizeChecks, requestChecks, listedEffect, requestEffect}
 use Rattle.emulator.specs.Calls.{Call, powerOn, request, lookUp, deviceRead, deviceWrite, hostWrite, hostRead, invalidate, setRegister, readRegister, loadParts, saveParts, stop, start, given, input, ownChecks, checks, effect, probesOf, outcome}
 use Rattle.assurance.specs.Overwrite.{mask}
 use Rattle.assurance.specs.Runs.{Ask, Others, Event, written, disturbed, lentTo, event, turn, run}
@@ -43,8 +43,9 @@ use Rattle.assurance.proofs.Blind.{seen, blind, read-clear, host-read-p
 use Rattle.assurance.proofs.Agreement.{mask-lent}
 use Rattle.assurance.proofs.Books.{Holds, stores-holds, scatter-holds, clears-holds, cleared-outside}
 
--- the ledger holds each written byte, and finds each device address in the mapping where the table does
+-- the ledger has the IOMMU type, holds each written byte, and finds each device address in the mapping where the table does
 record Books (l : Ledger) (e : Emulator) : Type 0 where
+  kind : e .machine .iommuType ≡ l .iommuType
   bytes : Holds (l .byte) (e .memory)
   maps : (d : DeviceAddress) → find (e .machine .mappings) d ≡ find (l .mappings) d
   apart : Apart (l .mappings)
@@ -59,6 +60,7 @@ books-disturbed : (l : Ledger) (w : Others) (room : ℕ) (e : Emulator) → Book
 unfolding disturbed byteAt written
 books-disturbed l w room e h =
     record {
+      kind = h .kind;
       bytes = record {
         level = length-overwrite _ _ (e .memory .bytes) ∙ h .bytes .level;
         bytes = λ k p. rw (getD-kept (written (e .memory)) (w .memory) (e .memory .bytes) (k .0) p) (h .bytes .bytes k p);
@@ -75,21 +77,27 @@ usable-apart e h = sound-apart _ _ (and-true _ _ (and-true _ _ (and-true _ _ (an
 
 module _ (l : Ledger) (e : Emulator) (buf : List ℕ) (h : Books l e) where
   listed-books : (q : Request) → Apart (e .machine .mappings) → listedChecks q buf e ≡ Pass → Books (ledgerAfterRequest q buf l) (after (listedEffect q buf e) e)
-  unfolding ledgerAfterRequest listedEffect listedChecks after edited withMappings withRegisters Apart find mapChecks
+  unfolding ledgerAfterRequest listedEffect listedChecks after edited withMappings withRegisters withIommuType Apart find mapChecks
   listed-books getApiVersion a ok = h
   listed-books checkExtension a ok = h
+  listed-books setIommu a ok = record { kind = refl; bytes = h .bytes; maps = h .maps; apart = h .apart }
   listed-books getIommuInfo a ok = h
   listed-books mapDma a ok =
       let m : Mapping = requestedMapping buf in
       let free = when-pass _ _ (then-pass _ _ (then-pass _ _ (then-pass _ _ (then-pass _ _ (then-pass _ _ ok .1) .1) .1) .1) .0) in
       record {
+        kind = h .kind;
         bytes = h .bytes;
         maps = λ d. find-insert m (e .machine .mappings) free d ∙ ap (λ (o : Option Mapping). pick (holds m d) (some m) o) (h .maps d);
         apart = ((λ d p. sym (h .maps d) ∙ free-find m (e .machine .mappings) free d p), h .apart);
       }
   listed-books unmapDma a ok =
-      let test : Mapping → Bool = inside (requestedStart buf) (requestedSize buf) in
+      let test : Mapping → Bool = removed (e .machine .iommuType) (e .machine .mappings) (requestedStart buf) (requestedSize buf) in
+      let same : removed (l .iommuType) (l .mappings) (requestedStart buf) (requestedSize buf) ≡ test =
+      rw (h .kind) (sym (removed-same (l .iommuType) (e .machine .mappings) (l .mappings) a (h .apart) (h .maps) (requestedStart buf) (requestedSize buf))) in
+      rw same
       record {
+        kind = h .kind;
         bytes = h .bytes;
         maps = λ d. find-without test (e .machine .mappings) a d ∙ ap (unless test) (h .maps d) ∙ sym (find-without test (l .mappings) (h .apart) d);
         apart = without-apart test (l .mappings) (h .apart);
@@ -97,7 +105,7 @@ module _ (l : Ledger) (e : Emulator) (buf : List ℕ) (h : Books l e) where
   listed-books getInfo a ok = h
   listed-books getRegionInfo a ok = h
   listed-books getIrqInfo a ok = h
-  listed-books resetDevice a ok = record { bytes = h .bytes; maps = h .maps; apart = h .apart }
+  listed-books resetDevice a ok = record { kind = h .kind; bytes = h .bytes; maps = h .maps; apart = h .apart }
 
   request-books : (o : Option Entry) → Apart (e .machine .mappings) → requestChecks o buf e ≡ Pass → Books (ledgerAfterListed o buf l) (after (requestEffect o buf e) e)
   unfolding ledgerAfterListed requestEffect sizeChecks requestChecks
@@ -109,6 +117,7 @@ books-after : (c : Call) (l : Ledger) (e : Emulator) (buf : List ℕ) → Books 
 unfolding given ledgerAfter effect ownChecks after edited find Apart empty poweredOn withRegisters withRunning deviceWriteChecks
 books-after (powerOn card) l e buf h good ok =
     record {
+      kind = refl;
       bytes = clears-holds (l .byte) (λ a. none) (memoryAddress 0) (length (e .memory .bytes)) (e .memory) (h .bytes)
           (λ k p q. absurd (q (omega arith) (omega (arith, initialized-below (e .memory .shadow) k p, h .bytes .level))));
       maps = λ d. refl;
@@ -119,24 +128,26 @@ books-after (lookUp d) l e buf h good ok = h
 books-after (deviceRead d) l e buf h good ok = h
 books-after (deviceWrite d) l e buf h good ok =
     record {
+      kind = h .kind;
       bytes = scatter-holds buf (l .byte) (e .memory) (e .machine .mappings) (l .mappings) d (translates l e h) (transfer-passed writeFault _ d (length buf) ok) (h .bytes);
       maps = h .maps;
       apart = h .apart;
     }
-books-after (hostWrite a) l e buf h good ok = record { bytes = stores-holds buf (l .byte) (e .memory) a (h .bytes); maps = h .maps; apart = h .apart }
+books-after (hostWrite a) l e buf h good ok = record { kind = h .kind; bytes = stores-holds buf (l .byte) (e .memory) a (h .bytes); maps = h .maps; apart = h .apart }
 books-after (hostRead a) l e buf h good ok = h
 books-after (invalidate a n) l e buf h good ok =
     record {
+      kind = h .kind;
       bytes = clears-holds (l .byte) _ a n (e .memory) (h .bytes) (λ k p q. cleared-outside a k n (l .byte) q);
       maps = h .maps;
       apart = h .apart;
     }
-books-after (setRegister kind selector) l e buf h good ok = record { bytes = h .bytes; maps = h .maps; apart = h .apart }
+books-after (setRegister kind selector) l e buf h good ok = record { kind = h .kind; bytes = h .bytes; maps = h .maps; apart = h .apart }
 books-after (readRegister kind selector) l e buf h good ok = h
-books-after loadParts l e buf h good ok = record { bytes = h .bytes; maps = h .maps; apart = h .apart }
+books-after loadParts l e buf h good ok = record { kind = h .kind; bytes = h .bytes; maps = h .maps; apart = h .apart }
 books-after saveParts l e buf h good ok = h
-books-after stop l e buf h good ok = record { bytes = h .bytes; maps = h .maps; apart = h .apart }
-books-after start l e buf h good ok = record { bytes = h .bytes; maps = h .maps; apart = h .apart }
+books-after stop l e buf h good ok = record { kind = h .kind; bytes = h .bytes; maps = h .maps; apart = h .apart }
+books-after start l e buf h good ok = record { kind = h .kind; bytes = h .bytes; maps = h .maps; apart = h .apart }
 
 -- ---- what an accepted read puts into the buffer
 
@@ -227,16 +238,16 @@ follows l e h (q ∷ qs) w =
 
 -- any emulator whose memory can be lent, with no mapping, agrees with a ledger of its own bytes
 unfoldable ownLedger : Memory → Ledger
-ownLedger m = record { mappings = []; byte = λ a. some (byteAt m a) }
+ownLedger m = record { iommuType = type1v2; mappings = []; byte = λ a. some (byteAt m a) }
 
 fresh-books : (card : Card) (e : Emulator) → usable (given (powerOn card)) e ≡ true → Books empty (after (effect (powerOn card) [] e) e)
 unfolding usable lendable shadowLength given effect ownLedger find Apart ledgerAfter after poweredOn ownChecks
 fresh-books card e good =
     let level : length (e .memory .bytes) ≡ marks (e .memory .shadow) = sym (eqb-true _ _ (and-true _ _ (and-true _ _ (and-true _ _ good .0) .0) .0)) in
     let bare : Emulator = record { memory = e .memory; room = e .room; machine = poweredOn card 0 } in
-    let own : Books (ownLedger (e .memory)) bare = record { bytes = record { level = level; bytes = λ k p. refl }; maps = λ d. refl; apart = tt } in
+    let own : Books (ownLedger (e .memory)) bare = record { kind = refl; bytes = record { level = level; bytes = λ k p. refl }; maps = λ d. refl; apart = tt } in
     let r = books-after (powerOn card) (ownLedger (e .memory)) bare [] own good refl in
-    record { bytes = r .bytes; maps = r .maps; apart = r .apart }
+    record { kind = r .kind; bytes = r .bytes; maps = r .maps; apart = r .apart }
 
 -- a refused fresh start does not answer with a result
 fresh-by : (card : Card) (e : Emulator) (v : Verdict) → checks (powerOn card) [] e ≡ v → settle v (value 0) ≡ done (value 0)

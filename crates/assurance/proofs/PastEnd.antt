@@ -33,7 +33,7 @@ use Rattle.memory.proofs.Transfers.{host-write-room, invalidate-room}
 use Rattle.dma.specs.Transfers.{writeFault, deviceWriteChecks, location, scatter}
 use Rattle.emulator.specs.Machine.{Machine, Emulator, machineOf, emulatorOf, both, usable, lendable, lendableRecords, poweredOn, asNoted, sound, soundMappings}
 use Rattle.emulator.specs.Effect.{effectOf, outcomeOf, after}
-use Rattle.emulator.specs.Requests.{Request, getApiVersion, checkExtension, getIommuInfo, mapDma, unmapDma, getInfo, getRegionInfo, getIrqInfo, resetDevice, Entry, identify, requestEffect, listedEffect}
+use Rattle.emulator.specs.Requests.{Request, getApiVersion, checkExtension, setIommu, getIommuInfo, mapDma, unmapDma, getInfo, getRegionInfo, getIrqInfo, resetDevice, Entry, identify, requestEffect, listedEffect}
 use Rattle.emulator.specs.Calls.{Call, powerOn, request, lookUp, deviceRead, deviceWrite, hostWrite, hostRead, invalidate, setRegister, readRegister, loadParts, saveParts, stop, start, given, ownChecks, checks, effect, outcome}
 use Rattle.assurance.specs.Packed.{withPacked, PastEnd}
 use Rattle.assurance.proofs.Blind.{first, shift, transfer-passed}
@@ -117,6 +117,7 @@ listed-below : (n : ℕ) (q : Request) (buf : List ℕ) (e : Emulator) → Below
 unfolding Below listedEffect
 listed-below n getApiVersion buf e = tt
 listed-below n checkExtension buf e = tt
+listed-below n setIommu buf e = tt
 listed-below n getIommuInfo buf e = tt
 listed-below n mapDma buf e = tt
 listed-below n unmapDma buf e = tt

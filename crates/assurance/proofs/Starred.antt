@@ -13,12 +13,12 @@ use Rattle.answer.proofs.Tests.{and-true}
 use Rattle.address.specs.Address.{memoryAddress, aligned, inDeviceRange, inMemoryRange}
 use Rattle.address.specs.declared.MemoryAddress.{MemoryAddress}
 use Rattle.wire.specs.Field.{field, bytesOf}
-use Rattle.iommu.specs.Table.{holds, addressIn, leftIn, translate, mapped, validRights, readable, alignedMapping, inRange, soundMapping, soundMappingsFrom, soundTable, touches, inside, anyOf, overlaps, cuts, insert, without, totalSize}
+use Rattle.iommu.specs.Table.{isIommuType, holds, addressIn, leftIn, translate, mapped, validRights, readable, alignedMapping, inRange, soundMapping, soundMappingsFrom, soundTable, touches, inside, beginsIn, sticksOut, anyOf, overlaps, cuts, blocked, removed, insert, without, totalSize}
 use Rattle.iommu.specs.Halving.{middleOf, probed, searched, halved, probesFor}
-use Rattle.iommu.specs.Requests.{translateChecks, mapChecks, unmapChecks}
+use Rattle.iommu.specs.Requests.{setIommuChecks, mapChecks, unmapChecks, translateChecks}
 use Rattle.memory.specs.Shadow.{initialized, marked, shadowLength}
 use Rattle.bitmap.specs.Bits.{bit, withBit}
-use Rattle.memory.specs.Memory.{edit, edited, stores}
+use Rattle.memory.specs.Memory.{edit, edited, stores, clears}
 use Rattle.memory.specs.Transfers.{unwrittenAt, hostWriteChecks}
 use Rattle.dma.specs.Transfers.{readFault, transferChecks, deviceReadChecks}
 use Rattle.registers.specs.Cards.{wordsOf, isCard}
@@ -29,11 +29,11 @@ use Rattle.registers.specs.Access.{selectorChecks, setChecks}
 use Rattle.parts.specs.Step.{valueSize, headerChecks, partAt, stepOn, partStep, stepAt, valueTo}
 use Rattle.parts.specs.Load.{flagsOf, listedChecks as listedPartChecks, partChecks, named, taken, finish, onStep, loadFrom, load}
 use Rattle.parts.specs.Save.{encoded, partOf, savedFrom, saved, saveChecks}
-use Rattle.emulator.specs.Machine.{lendableRecords, soundMappings, soundLength, soundCard, soundRegisters, sound, lendable, asNoted, usable, poweredOn, withMappings, withRegisters}
+use Rattle.emulator.specs.Machine.{lendableRecords, soundMappings, soundLength, soundCard, soundIommuType, soundRegisters, sound, lendable, asNoted, usable, poweredOn, withMappings, withRegisters, withIommuType}
 use Rattle.emulator.specs.Effect.{Result, value, location, effectOf, carried, outcomeOf, after, filled}
-use Rattle.emulator.specs.Requests.{entryIn, identify, regionAt, requestedMapping, requestedStart, requestedSize, requestedIndex, argszChecks, listedChecks, sizeChecks, requestChecks, listedEffect, requestEffect}
+use Rattle.emulator.specs.Requests.{entryIn, identify, regionAt, requestedType, requestedMapping, requestedStart, requestedSize, requestedIndex, argszChecks, listedChecks, sizeChecks, requestChecks, listedEffect, requestEffect}
 use Rattle.emulator.specs.Calls.{given, ownChecks, checks, located, effect, probesOf, outcome}
-use Rattle.assurance.specs.Starred.{lentRecords, Case, Right, AllRight, none, more, outcomeTo, behind, outcomeIn, mapAt, unmapBuffer, unmapAt, twoMappings, statusPart, offeredPart, offeredPart128, regionSeven, cases, Starred}
+use Rattle.assurance.specs.Starred.{lentRecords, Case, Right, AllRight, none, more, outcomeTo, behind, outcomeIn, mapAt, unmapBuffer, unmapAt, setIommuTo, twoMappings, statusPart, offeredPart, offeredPart128, regionSeven, cases, Starred}
 
 -- ---- the test, and that it tells
 
@@ -103,7 +103,7 @@ all-right (c ∷ cs) h = more (is-right c (and-true _ _ h .0)) (all-right cs (an
 -- ---- the test passes
 
 tested : allRight cases ≡ true
-unfolding sameResult sameAnswer sameBytes right allRight lentRecords outcomeTo behind outcomeIn mapAt unmapBuffer unmapAt twoMappings statusPart offeredPart offeredPart128 regionSeven cases _and_ _or_ pick isSome lengthCheck _then_ _when_ _unless_ _at_ firstFault passes settle _onward_ verdict resultOr aligned inDeviceRange inMemoryRange field bytesOf holds addressIn translate mapped validRights readable alignedMapping inRange soundMapping soundMappingsFrom soundTable touches inside anyOf overlaps cuts insert without totalSize mapChecks unmapChecks initialized marked bit withBit shadowLength edit edited stores unwrittenAt hostWriteChecks readFault transferChecks deviceReadChecks kindOf selectorOf widthOf sizeIn sizeOf rowFrom rowOf selects listed selectorWidth offeredWord offered eachWord within powerOfTwo validQueue contentChecks valueChecks current withValue reset soundValue soundValuesFrom soundFile selectorChecks setChecks valueSize headerChecks partAt stepOn partStep stepAt valueTo flagsOf listedPartChecks partChecks named taken finish onStep loadFrom load encoded partOf savedFrom saved saveChecks lendableRecords soundMappings soundLength wordsOf isCard soundCard soundRegisters sound lendable asNoted usable poweredOn withMappings withRegisters effectOf outcomeOf after filled entryIn identify regionAt requestedMapping requestedStart requestedSize requestedIndex argszChecks listedChecks sizeChecks requestChecks listedEffect requestEffect given ownChecks checks effect outcome leftIn translateChecks located carried probesOf middleOf probed searched halved probesFor
+unfolding sameResult sameAnswer sameBytes right allRight lentRecords outcomeTo behind outcomeIn mapAt unmapBuffer unmapAt setIommuTo twoMappings statusPart offeredPart offeredPart128 regionSeven cases _and_ _or_ pick isSome lengthCheck _then_ _when_ _unless_ _at_ firstFault passes settle _onward_ verdict resultOr isIommuType aligned inDeviceRange inMemoryRange field bytesOf holds addressIn translate mapped validRights readable alignedMapping inRange soundMapping soundMappingsFrom soundTable touches inside beginsIn sticksOut anyOf overlaps cuts blocked removed insert without totalSize setIommuChecks mapChecks unmapChecks initialized marked bit withBit shadowLength edit edited stores clears unwrittenAt hostWriteChecks readFault transferChecks deviceReadChecks kindOf selectorOf widthOf sizeIn sizeOf rowFrom rowOf selects listed selectorWidth offeredWord offered eachWord within powerOfTwo validQueue contentChecks valueChecks current withValue reset soundValue soundValuesFrom soundFile selectorChecks setChecks valueSize headerChecks partAt stepOn partStep stepAt valueTo flagsOf listedPartChecks partChecks named taken finish onStep loadFrom load encoded partOf savedFrom saved saveChecks lendableRecords soundMappings soundLength wordsOf isCard soundCard soundIommuType soundRegisters sound lendable asNoted usable poweredOn withMappings withRegisters withIommuType effectOf outcomeOf after filled entryIn identify regionAt requestedType requestedMapping requestedStart requestedSize requestedIndex argszChecks listedChecks sizeChecks requestChecks listedEffect requestEffect given ownChecks checks effect outcome leftIn translateChecks located carried probesOf middleOf probed searched halved probesFor
 tested = refl
 
 pub starred : Starred

@@ -5,6 +5,7 @@
 -- memory, records and state, with the answer as C's struct.
 -- A walker step over a stream of parts means `stepAt` (parts/specs/Step.antt); so promise crates/parts/src/lib.rt and crates/reader/src/lib.rt.
 -- specs/Examples.antt works out two runs; tests/definitions/ has edits of definitions that the proofs below refuse, all but that of `sessions`.
+use Rattle.iommu.specs.Requests.{Remains}
 use Rattle.parts.specs.RoundTrip.{RoundTrip}
 use Rattle.assurance.specs.Demand1.{Demand1}
 use Rattle.assurance.specs.SaveLoad.{SaveLoad}
@@ -21,8 +22,10 @@ pub record Demands : Type 0 where
   pub roundTrip : RoundTrip
   -- what an accepted save leaves in its buffer, any sound, stopped device that is the same card loads, and has the saved registers then;
   pub saveLoad : SaveLoad
-  -- the worked values are right, each an answer and a whole buffer.
+  -- the worked values are right, each an answer and a whole buffer;
   pub starred : Starred
+  -- by the rule of either IOMMU type, what an unmap leaves of a sound table is sound, and no size is lost.
+  pub remains : Remains
   -- Demand 3. For every list of calls, whatever others write meanwhile to unwritten memory, stale records and stale bytes of buffers: emulators that
   -- differ in nothing but those answer and write the same; and from a fresh start on, accepted reads give what the ledger holds;
   pub demand3 : Demand3

@@ -1,10 +1,11 @@
--- The worked values of rules 7.1 to 7.12, 7.19 to 7.22 and 7.26 to 7.31, as one table under one statement (rule 8.5).
+-- The worked values of rules 7.1 to 7.12, 7.19 to 7.22 and 7.26 to 7.34, and some of rules 1.19 and 3.24, as one table under one statement
+-- (rule 8.5).
 use Prim.Native.Nat.{ℕ, _+_, _-_, _/_, _^_}
 use mathlib.Core.Path.{_≡_}
 use mathlib.Core.Bool.{Bool}
 use mathlib.Core.List.{List, [], _∷_, _++_}
 use lib.ListN.{length, replicate}
-use Rattle.answer.specs.Codes.{BadBench, Empty, Range, Overlap, NoRoom, Cuts, Unmapped, Unwritten, Twice, Value, Mismatch, Missing}
+use Rattle.answer.specs.Codes.{BadBench, Flags, Empty, Range, Overlap, NoRoom, Cuts, Unmapped, Unwritten, Twice, Value, Mismatch, Missing}
 use Rattle.answer.specs.Answer.{Answer, done, refused}
 use Rattle.address.specs.Address.{page, deviceLimit, deviceAddress, memoryAddress}
 use Rattle.memory.specs.Shadow.{packed}
@@ -83,6 +84,10 @@ unmapBuffer d n = bytesOf 4 24 ++ bytesOf 4 0 ++ bytesOf 8 d ++ bytesOf 8 n
 
 unfoldable pub unmapAt : ℕ → ℕ → Ask
 unmapAt d n = request container 114 lent unmapBuffer d n
+
+-- request 102 with a number
+unfoldable pub setIommuTo : ℕ → Ask
+setIommuTo kind = request container 102 lent bytesOf 4 kind
 
 -- [0, 8192) and [8192, 12288), as rules 7.8 and 7.9 have them
 unfoldable pub twoMappings : List Ask
@@ -186,6 +191,22 @@ cases =
     ∷ finds twoMappings 12288 (refused Unmapped 0) 1
     ∷ finds [] 0 (refused Unmapped 0) 0
     ∷ finds twoMappings deviceLimit (refused Range 0) 0
+    -- rule 3.24: both numbers, and no other
+    ∷ answers [] (request container 101 lent bytesOf 4 1) (gives 1)
+    ∷ answers [] (request container 101 lent bytesOf 4 3) (gives 1)
+    ∷ answers [] (request container 101 lent bytesOf 4 2) (gives 0)
+    -- rules 3.23, 7.34: another number; and a mapping is held, also where the type is the one that there is
+    ∷ answers [] (setIommuTo 2) (refused Flags 0)
+    ∷ answers (mapAt 0 4096 ∷ []) (setIommuTo 1) (refused Flags 0)
+    ∷ answers (mapAt 0 4096 ∷ []) (setIommuTo 3) (refused Flags 0)
+    -- rules 3.25, 7.32: what rule 7.8 refuses is accepted under Type1, removes nothing and reports 0; all is there still
+    ∷ record { card = Features64; before = setIommuTo 1 ∷ twoMappings; ask = unmapAt 4096 8192; answer = gives 0; probes = 0; leaves = unmapBuffer 4096 0 }
+    ∷ record { card = Features64; before = setIommuTo 1 ∷ mapAt 0 8192 ∷ mapAt 8192 4096 ∷ unmapAt 4096 8192 ∷ []; ask = unmapAt 0 12288; answer = gives 0; probes = 0; leaves = unmapBuffer 0 12288 }
+    -- rules 3.25, 7.33: a mapping goes whole, and more is reported than was asked
+    ∷ record { card = Features64; before = setIommuTo 1 ∷ twoMappings; ask = unmapAt 0 4096; answer = gives 0; probes = 0; leaves = unmapBuffer 0 8192 }
+    -- rule 1.19: a reset keeps the type, and a fresh start sets Type1v2
+    ∷ record { card = Features64; before = setIommuTo 1 ∷ (request device 111 lent []) ∷ twoMappings; ask = unmapAt 0 4096; answer = gives 0; probes = 0; leaves = unmapBuffer 0 8192 }
+    ∷ answers (setIommuTo 1 ∷ (powerOn Features64 lent []) ∷ twoMappings) (unmapAt 0 4096) (refused Cuts 0)
     ∷ []
 
 -- The statement: all of them are right. proofs/Starred.antt has its term.

@@ -49,7 +49,7 @@ use Rattle.emulator.proofs.PowerOn.{power-refused, power-done}
 use Rattle.emulator.proofs.Running.{run-bad, run-set}
 use Rattle.emulator.proofs.DeviceTransfers.{read-refused, read-done, write-refused, write-done}
 use Rattle.vfio.specs.Entries.{entryOf, entryAt}
-use Rattle.vfio.specs.Handlers.{Replies, Admits, Answered, mapIndex, unmapIndex, resetIndex}
+use Rattle.vfio.specs.Handlers.{Replies, Admits, Answered, setIommuIndex, mapIndex, unmapIndex, resetIndex}
 use Rattle.vfio.specs.declared.Admission.{Admission}
 use Rattle.vfio.specs.declared.Map.{Map}
 use Rattle.vfio.proofs.Handlers.{reset-done}
@@ -286,12 +286,13 @@ module _ (a : Admission) (buf : List ℕ) (s : State) (rs : List Mapping) where
     pub is-not : go ≡ false → IsNot k a
     is-not h v i = true≢false (sym (goes ∙ and-made _ _ (sym (passes-pass v)) (eq-eqb _ _ i)) ∙ h)
 
-    -- what a handler that changes the table asks
+    -- what a handler that looks at its buffer asks
+    pub size-asks : (a .verdict ≡ Pass → sizeChecks (entryAt (a .index)) buf ≡ Pass) → go ≡ true → entryOf k .size ≤ length buf
+    size-asks fits h = let at = admitted-at h in size-room buf (a .index) k (at .1) (fits (at .0))
+
+    -- one that changes the table
     pub table-asks : Fits a buf s rs → go ≡ true → (sound (length rs) (machineOf s rs) ≡ true) × (entryOf k .size ≤ length buf)
-    table-asks fits h =
-        let at = admitted-at h in
-        let f = fits (at .0) in
-        (f .0, size-room buf (a .index) k (at .1) (f .1))
+    table-asks fits h = (fits (admitted-at h .0) .0, size-asks (λ v. fits v .1) h)
 
     pub handles : go ≡ true → (q : Request) → entryOf k .request ≡ q → (x : Answer Result) (buf′ : List ℕ) (s′ : State) (rs′ : List Mapping) → Replies q buf s rs x buf′ s′ rs′
         → (o : Outcome) → o ≡ answerStruct x → Handled a buf s rs o buf′ s′ rs′
@@ -307,13 +308,13 @@ module _ (a : Admission) (buf : List ℕ) (s : State) (rs : List Mapping) where
         let x = replied .answered .plain (at .0) .reset (at .1) in
         rw (x .1) (handles resetIndex resets h resetDevice refl (done (value 0)) buf (withRegistersIn r s) rs (reset-done buf s rs r e) o (replied .struct ∙ ap (λ (y : Answer Result). answerStruct y) (x .0)))
 
-    -- every other that changes no mapping: refused by checks 1 to 4, or answered by its buffer alone
-    pub answers : wipe ≡ false → IsNot mapIndex a → IsNot unmapIndex a → Handled a buf s rs o buf′ s rs
-    answers h map unmap =
+    -- every other that changes nothing: refused by checks 1 to 4, or answered by its buffer alone
+    pub answers : wipe ≡ false → IsNot setIommuIndex a → IsNot mapIndex a → IsNot unmapIndex a → Handled a buf s rs o buf′ s rs
+    answers h set map unmap =
         record {
           answer = replied .answer;
           struct = replied .struct;
-          handled = λ v m noted. replied .answered .plain v .other (map v) (unmap v) (is-not resetIndex resets h v) s rs m;
+          handled = λ v m noted. replied .answered .plain v .other (set v) (map v) (unmap v) (is-not resetIndex resets h v) s rs m;
           not = λ code place f. let x = replied .answered .not code place f in (x .0, x .1, refl, refl);
         }
 

@@ -22,7 +22,7 @@ use Rattle.dma.specs.Walk.{Ready}
 use Rattle.registers.specs.declared.Card.the-variants.{Features64, Features128}
 use Rattle.emulator.specs.Requests.{sizeChecks}
 use Rattle.vfio.specs.Entries.{entryAt}
-use Rattle.vfio.specs.Handlers.{mapIndex, unmapIndex}
+use Rattle.vfio.specs.Handlers.{setIommuIndex, mapIndex, unmapIndex}
 use Rattle.emulator.specs.Calls.{powerOn, request, deviceRead, deviceWrite, hostWrite, hostRead, invalidate, setRegister, readRegister, loadParts, saveParts, stop, start}
 use Rattle.emulator.proofs.Contracts.{state}
 use Rattle.capi.specs.Contract.{Tells, TellsAlone, FindsAt, IsNot, Fits, Handled, Judged}
@@ -34,6 +34,8 @@ use Rattle.capi.proofs.mapped.Kinds as mapped-kinds
 use Rattle.capi.proofs.mapped.Reads as mapped-reads
 use Rattle.capi.proofs.unmapped.Kinds as unmapped-kinds
 use Rattle.capi.proofs.unmapped.Reads as unmapped-reads
+use Rattle.capi.proofs.iommu_set.Kinds as iommu-set-kinds
+use Rattle.capi.proofs.iommu_set.Reads as iommu-set-reads
 use Rattle.capi.proofs.answered.Kinds as answered-kinds
 use Rattle.capi.proofs.answered.Reads as answered-reads
 use Rattle.capi.proofs.found_at.Kinds as found-at-kinds
@@ -92,6 +94,12 @@ use Rattle.vfio.proofs.maps.Kinds as maps-kinds
 use Rattle.vfio.proofs.maps.Reads as maps-reads
 use Rattle.vfio.proofs.unmaps.Kinds as unmaps-kinds
 use Rattle.vfio.proofs.unmaps.Reads as unmaps-reads
+use Rattle.vfio.proofs.sets_iommu.Kinds as sets-iommu-kinds
+use Rattle.vfio.proofs.sets_iommu.Reads as sets-iommu-reads
+use Rattle.vfio.proofs.plan_iommu.Kinds as plan-iommu-kinds
+use Rattle.vfio.proofs.plan_iommu.Reads as plan-iommu-reads
+use Rattle.vfio.proofs.kept_type.Kinds as kept-type-kinds
+use Rattle.vfio.proofs.kept_type.Reads as kept-type-reads
 use Rattle.vfio.proofs.resets.Kinds as resets-kinds
 use Rattle.vfio.proofs.resets.Reads as resets-reads
 use Rattle.registers.proofs.reset.Kinds as reset-kinds
@@ -142,6 +150,9 @@ mapped = record { params = mapped-kinds.ps; result = mapped-kinds.r; asked = map
 
 abbrev pub unmapped : Promise 0
 unmapped = record { params = unmapped-kinds.ps; result = unmapped-kinds.r; asked = unmapped-reads.Asked; promised = unmapped-reads.Learnt }
+
+abbrev pub iommu-set : Promise 0
+iommu-set = record { params = iommu-set-kinds.ps; result = iommu-set-kinds.r; asked = iommu-set-reads.Asked; promised = iommu-set-reads.Learnt }
 
 abbrev pub answered : Promise 1
 answered = record { params = answered-kinds.ps; result = answered-kinds.r; asked = answered-reads.Asked; promised = answered-reads.Learnt }
@@ -230,6 +241,15 @@ maps = record { params = maps-kinds.ps; result = maps-kinds.r; asked = maps-read
 abbrev pub unmaps : Promise 0
 unmaps = record { params = unmaps-kinds.ps; result = unmaps-kinds.r; asked = unmaps-reads.Asked; promised = unmaps-reads.Learnt }
 
+abbrev pub sets-iommu : Promise 0
+sets-iommu = record { params = sets-iommu-kinds.ps; result = sets-iommu-kinds.r; asked = sets-iommu-reads.Asked; promised = sets-iommu-reads.Learnt }
+
+abbrev pub plan-iommu : Promise 1
+plan-iommu = record { params = plan-iommu-kinds.ps; result = plan-iommu-kinds.r; asked = plan-iommu-reads.Asked; promised = plan-iommu-reads.Learnt }
+
+abbrev pub kept-type : Promise 0
+kept-type = record { params = kept-type-kinds.ps; result = kept-type-kinds.r; asked = kept-type-reads.Asked; promised = kept-type-reads.Learnt }
+
 abbrev pub resets : Promise 0
 resets = record { params = resets-kinds.ps; result = resets-kinds.r; asked = resets-reads.Asked; promised = resets-reads.Learnt }
 
@@ -256,6 +276,14 @@ glint-power-on-128 = record {
 
 abbrev pub answer-request : Promise 2
 answer-request = record {
+  params = lentOne state 0 tt ∷ by-value admission ∷ pMutS bytes 1 tt ∷ [];
+  result = returned outcome;
+  asked = λ κs a. (a .1 .0 .verdict ≡ Pass → sizeChecks (entryAt (a .1 .0 .index)) (a .1 .1 .0 .now) ≡ Pass);
+  promised = λ κs a r e. ((rs : List MappingRecord) → IsNot setIommuIndex (a .1 .0) → IsNot mapIndex (a .1 .0) → IsNot unmapIndex (a .1 .0) → Handled (a .1 .0) (a .1 .1 .0 .now) (a .0 .now) rs r (e .1 .1 .0 .now) (e .0 .now) rs);
+}
+
+abbrev pub set-or-answer : Promise 2
+set-or-answer = record {
   params = lentOne state 0 tt ∷ by-value admission ∷ pMutS bytes 1 tt ∷ [];
   result = returned outcome;
   asked = λ κs a. (a .1 .0 .verdict ≡ Pass → sizeChecks (entryAt (a .1 .0 .index)) (a .1 .1 .0 .now) ≡ Pass);

@@ -16,6 +16,7 @@ use parts::Step;
 use registers::Card;
 use registers::Registers;
 use vfio::Admission;
+use vfio::IommuChange;
 use vfio::Map;
 ghost use mathlib.Core.Path.{_≡_};
 ghost use mathlib.Core.Bool.{true, false, not};
@@ -43,7 +44,7 @@ ghost use Rattle.emulator.specs.Calls.{powerOn, request, deviceRead, deviceWrit
 ghost use Rattle.emulator.specs.Contract.{lentMemory, leftMemory, remarkedMemory, told, toldLocation, toldProbes};
 ghost use Rattle.emulator.specs.declared.State.{State as StateRecord};
 ghost use Rattle.vfio.specs.Entries.{entryAt};
-ghost use Rattle.vfio.specs.Handlers.{mapIndex, unmapIndex};
+ghost use Rattle.vfio.specs.Handlers.{setIommuIndex, mapIndex, unmapIndex};
 ghost use Rattle.capi.specs.Structs.{success as succeeded, refusal as refused, answerStruct, doneIf, foundStruct, noPart, keptBy};
 ghost use Rattle.capi.specs.Contract.{Tells, TellsAlone, FindsAt, IsNot, Fits, Replied, Handled, Judged, Steps};
 
@@ -207,6 +208,13 @@ fn unmapped(u: Unmap) -> Outcome
     numbers(answer::settle(verdict, 0))
 }
 
+fn iommu_set(c: IommuChange) -> Outcome
+    ensures { λ r. ⌜ r ≡ answerStruct (settle (c .verdict) (value 0)) ⌝ }
+{
+    let verdict = c.verdict;
+    numbers(answer::settle(verdict, 0))
+}
+
 fn answered(a: Admission, buf: &mut [u8]) -> Outcome
     requires { ⌜ (a .verdict ≡ Pass → sizeChecks (entryAt (a .index)) (now buf) ≡ Pass) ⌝ }
     ensures { λ r. ⌜ Replied a (now (buf .entry)) r (now (buf .exit)) ⌝ }
@@ -214,15 +222,30 @@ fn answered(a: Admission, buf: &mut [u8]) -> Outcome
     numbers(vfio::reply(a, buf))
 }
 
-// An admitted request that changes no mapping: a reset of the device, or one that its buffer alone answers.
+// An admitted request that changes nothing of the container: a reset of the device, or one that its buffer alone answers.
 fn answer_request(state: &mut State, a: Admission, buf: &mut [u8]) -> Outcome
     requires { ⌜ (a .verdict ≡ Pass → sizeChecks (entryAt (a .index)) (now buf) ≡ Pass) ⌝ }
-    ensures { λ r. ⌜ ((rs : List MappingRecord) → IsNot mapIndex a → IsNot unmapIndex a → Handled a (now (buf .entry)) (now (state .entry)) rs r (now (buf .exit)) (now (state .exit)) rs) ⌝ }
+    ensures { λ r. ⌜ ((rs : List MappingRecord) → IsNot setIommuIndex a → IsNot mapIndex a → IsNot unmapIndex a → Handled a (now (buf .entry)) (now (state .entry)) rs r (now (buf .exit)) (now (state .exit)) rs) ⌝ }
 {
     if vfio::resets(a) {
         state.registers = registers::reset();
     }
     answered(a, buf)
+}
+
+// One that changes no mapping: it sets the container's IOMMU type, or changes nothing of the container.
+fn set_or_answer(state: &mut State, a: Admission, buf: &mut [u8]) -> Outcome
+    requires { ⌜ (a .verdict ≡ Pass → sizeChecks (entryAt (a .index)) (now buf) ≡ Pass) ⌝ }
+    ensures { λ r. ⌜ ((rs : List MappingRecord) → IsNot mapIndex a → IsNot unmapIndex a → Handled a (now (buf .entry)) (now (state .entry)) rs r (now (buf .exit)) (now (state .exit)) rs) ⌝ }
+{
+    if vfio::sets_iommu(a) {
+        let count = state.count;
+        let kind = state.iommu_type;
+        let change = vfio::plan_iommu(count, kind, buf);
+        state.iommu_type = vfio::kept_type(change);
+        return iommu_set(change);
+    }
+    answer_request(state, a, buf)
 }
 
 // One that adds no mapping: an unmap, or one that changes none.
@@ -238,7 +261,7 @@ fn unmap_or_answer(
     if vfio::unmaps(a) {
         return unmapped(vfio::unmap_dma(state, records, buf));
     }
-    answer_request(state, a, buf)
+    set_or_answer(state, a, buf)
 }
 
 // An admitted request, or one that checks 1 to 4 refused.

@@ -11,7 +11,7 @@ use Rattle.answer.specs.Codes.{BadBench}
 use Rattle.answer.specs.Tests.{_and_, pick}
 use Rattle.answer.proofs.Tests.{and-false, and-second, found-false, found-true}
 use Rattle.address.specs.Address.{memoryAddress}
-use Rattle.iommu.specs.Table.{capacity}
+use Rattle.iommu.specs.Table.{capacity, type1v2}
 use Rattle.iommu.specs.declared.Mapping.{Mapping}
 use Rattle.memory.specs.Shadow.{markBytes}
 use Rattle.memory.specs.Memory.{Memory, edited, clears}
@@ -60,7 +60,7 @@ module _ (card : Card) (s : State) (rs : List Mapping) (m m′ : Memory) where
 
 -- the state that the code makes of a reset card
 pub fresh-state : (card : Card) (n w : ℕ) (r : Registers) (s : State) → w ≡ wordsOf card → r .slots ≡ slotsOf reset
-    → record { «memory_length» = n; count = 0; registers = r; running = 0; words = w } ≡ stateWith everything (poweredOn card n) s
+    → record { «memory_length» = n; count = 0; registers = r; running = 0; words = w; «iommu_type» = type1v2 } ≡ stateWith everything (poweredOn card n) s
 unfolding stateWith poweredOn
 fresh-state card n w r s d e =
-    rw d (ap (λ (l : List Register). record { «memory_length» = n; count = 0; registers = record { slots = l }; running = 0; words = wordsOf card }) e)
+    rw d (ap (λ (l : List Register). record { «memory_length» = n; count = 0; registers = record { slots = l }; running = 0; words = wordsOf card; «iommu_type» = type1v2 }) e)

@@ -23,7 +23,7 @@ use Rattle.memory.specs.Transfers.{unwrittenAt, unwrittenIn, hostWriteChecks, h
 use Rattle.memory.specs.Memory.{byteAt, bytesFrom}
 use Rattle.dma.specs.Transfers.{readFault, transferChecks, deviceReadChecks, gather}
 use Rattle.emulator.specs.Machine.{Emulator, Given, memoryAlone, stateAlone, both, lendable, asNoted, usable}
-use Rattle.emulator.specs.Requests.{Request, Entry, getApiVersion, checkExtension, getIommuInfo, mapDma, unmapDma, getInfo, getRegionInfo, getIrqInfo, resetDevice, identify, requestChecks, listedChecks, requestEffect, listedEffect}
+use Rattle.emulator.specs.Requests.{Request, Entry, getApiVersion, checkExtension, setIommu, getIommuInfo, mapDma, unmapDma, getInfo, getRegionInfo, getIrqInfo, resetDevice, identify, requestChecks, listedChecks, requestEffect, listedEffect}
 use Rattle.emulator.specs.Calls.{Call, powerOn, request, lookUp, deviceRead, deviceWrite, hostWrite, hostRead, invalidate, setRegister, readRegister, loadParts, saveParts, stop, start, given, ownChecks, checks, effect, outcome}
 
 -- the same emulator with another shadow
@@ -71,6 +71,7 @@ module _ (t : Shadow) (e : Emulator)
     unfolding listedChecks shadowedBy
     listed-checks getApiVersion buf = refl
     listed-checks checkExtension buf = refl
+    listed-checks setIommu buf = refl
     listed-checks getIommuInfo buf = refl
     listed-checks mapDma buf = refl
     listed-checks unmapDma buf = refl
@@ -88,6 +89,7 @@ module _ (t : Shadow) (e : Emulator)
     unfolding listedEffect shadowedBy
     listed-effect getApiVersion buf = refl
     listed-effect checkExtension buf = refl
+    listed-effect setIommu buf = refl
     listed-effect getIommuInfo buf = refl
     listed-effect mapDma buf = refl
     listed-effect unmapDma buf = refl

@@ -6,7 +6,7 @@ use lib.ListN.{length}
 use lib.Dec.{leb, eqb}
 use Rattle.answer.specs.Tests.{_and_, flagged}
 use Rattle.address.specs.Address.{memoryLimit}
-use Rattle.iommu.specs.Table.{capacity, soundTable, tableOf, inUse}
+use Rattle.iommu.specs.Table.{capacity, type1v2, isIommuType, soundTable, tableOf, inUse}
 use Rattle.iommu.specs.declared.Mapping.{Mapping}
 use Rattle.memory.specs.Shadow.{marks, markBytes, shadowLength}
 use Rattle.memory.specs.Memory.{Memory}
@@ -16,8 +16,8 @@ use Rattle.registers.specs.declared.Card.{Card}
 use Rattle.emulator.specs.declared.State.{State}
 
 -- What the kept state means with the records that are lent: no record past the count and no value of an unset register (rule 1.13).
--- `mappings` are the records in use, which are `count` where the state is sound; `memoryLength` is the noted length, and `words` is how
--- many words of features the card has (rule 1.15).
+-- `mappings` are the records in use, which are `count` where the state is sound; `memoryLength` is the noted length, `words` is how many
+-- words of features the card has (rule 1.15), and `iommuType` is the number of the container's IOMMU type (rule 1.19).
 pub record Machine : Type 0 where
   pub memoryLength : ℕ
   pub count : ℕ
@@ -25,6 +25,7 @@ pub record Machine : Type 0 where
   pub registers : File
   pub running : Bool
   pub words : ℕ
+  pub iommuType : ℕ
 
 -- memory with its marks, how many records are lent (rule 1.8), and the kept state
 pub record Emulator : Type 0 where
@@ -42,6 +43,7 @@ machineOf s rs =
       registers = fileOf (s .words) (s .registers);
       running = flagged (s .running);
       words = s .words;
+      iommuType = s .«iommu_type»;
     }
 
 -- the emulator that lent records and memory make with the code's state
@@ -53,6 +55,10 @@ emulatorOf s rs m = record { memory = m; room = length rs; machine = machineOf s
 -- rule 1.15: there is a card with that many words of features
 unfoldable pub soundCard : Machine → Bool
 soundCard k = isCard (k .words)
+
+-- rule 1.19: the container is of an IOMMU type that there is
+unfoldable pub soundIommuType : Machine → Bool
+soundIommuType k = isIommuType (k .iommuType)
 
 -- rules 1.8 and 2.6: at most 4,096 records are lent
 unfoldable pub lendableRecords : ℕ → Bool
@@ -72,7 +78,7 @@ soundRegisters k = soundFile (k .words) (k .registers)
 
 -- rule 1.12, whole
 unfoldable pub sound : ℕ → Machine → Bool
-sound room k = soundCard k and soundLength k and soundMappings room k and soundRegisters k
+sound room k = soundCard k and soundIommuType k and soundLength k and soundMappings room k and soundRegisters k
 
 -- ---- refusal 1, on what a call is given
 
@@ -98,18 +104,22 @@ usable both e = lendable (e .memory) and asNoted e and sound (e .room) (e .machi
 
 -- ---- states that calls leave
 
--- rule 1.10: the state that power on of a card leaves with memory of length `n`, of which nothing comes from the old one
+-- rules 1.10 and 1.19: the state that power on of a card leaves with memory of length `n`, of which nothing comes from the old one
 unfoldable pub poweredOn : Card → ℕ → Machine
-poweredOn card n = record { memoryLength = n; count = 0; mappings = []; registers = reset; running = false; words = wordsOf card }
+poweredOn card n = record { memoryLength = n; count = 0; mappings = []; registers = reset; running = false; words = wordsOf card; iommuType = type1v2 }
 
 unfoldable pub withMappings : List Mapping → Machine → Machine
 withMappings ms k =
-    record { memoryLength = k .memoryLength; count = length ms; mappings = ms; registers = k .registers; running = k .running; words = k .words }
+    record { memoryLength = k .memoryLength; count = length ms; mappings = ms; registers = k .registers; running = k .running; words = k .words; iommuType = k .iommuType }
 
 unfoldable pub withRegisters : File → Machine → Machine
 withRegisters file k =
-    record { memoryLength = k .memoryLength; count = k .count; mappings = k .mappings; registers = file; running = k .running; words = k .words }
+    record { memoryLength = k .memoryLength; count = k .count; mappings = k .mappings; registers = file; running = k .running; words = k .words; iommuType = k .iommuType }
 
 unfoldable pub withRunning : Bool → Machine → Machine
 withRunning running k =
-    record { memoryLength = k .memoryLength; count = k .count; mappings = k .mappings; registers = k .registers; running = running; words = k .words }
+    record { memoryLength = k .memoryLength; count = k .count; mappings = k .mappings; registers = k .registers; running = running; words = k .words; iommuType = k .iommuType }
+
+unfoldable pub withIommuType : ℕ → Machine → Machine
+withIommuType kind k =
+    record { memoryLength = k .memoryLength; count = k .count; mappings = k .mappings; registers = k .registers; running = k .running; words = k .words; iommuType = kind }

@@ -17,7 +17,7 @@ ghost use lib.ListN.{length};
 ghost use Rattle.answer.specs.Tests.{_and_, pick, flagged, flagByte};
 ghost use Rattle.answer.specs.Answer.{refused};
 ghost use Rattle.address.specs.Address.{memoryLimit, memoryAddress};
-ghost use Rattle.iommu.specs.Table.{holds, inRange, shownBy, translate};
+ghost use Rattle.iommu.specs.Table.{isIommuType, holds, inRange, shownBy, translate};
 ghost use Rattle.iommu.specs.Halving.{probesFor};
 ghost use Rattle.iommu.specs.declared.Mapping.{Mapping as MappingRecord};
 ghost use Rattle.memory.specs.Memory.{Memory, memoryOf, edited, clears};
@@ -32,8 +32,9 @@ ghost use Rattle.emulator.specs.Contract.{Meets, MeetsAlone, Locates, le
 ghost use Rattle.emulator.specs.declared.State.{State as StateRecord};
 
 // The state that a caller keeps between calls: the length of memory noted at power on, how many of the lent records are in use, the
-// device's registers, whether the device runs, and which card it is, by its 64-bit words of features: 1 or 2. It runs where `running` is 1,
-// and no other value of that byte says so. Any values may stand in the state: each call says whether they make a sound one.
+// device's registers, whether the device runs, which card it is, by its 64-bit words of features: 1 or 2, and the number of the container's
+// IOMMU type: 1 or 3. The device runs where `running` is 1, and no other value of that byte says so. Any values may stand in the state: each
+// call says whether they make a sound one.
 #[repr(C)]
 pub struct State {
     pub memory_length: u64,
@@ -41,6 +42,7 @@ pub struct State {
     pub registers: Registers,
     pub running: u8,
     pub words: u8,
+    pub iommu_type: u32,
 }
 
 // What the byte `running` of a state holds where the device runs.
@@ -61,11 +63,14 @@ pub struct Changed {
 
 // ---- refusal 1
 
-// Whether the card, the noted length and the registers of a kept state are sound.
-fn sound_device(words: u8, length: u64, registers: Registers) -> bool
-    ensures { λ r. ⌜ r ≡ (isCard words and leb length memoryLimit and soundFile words (fileOf words registers)) ⌝ }
+// Whether the card, the container's IOMMU type, the noted length and the registers of a kept state are sound.
+fn sound_device(words: u8, kind: u32, length: u64, registers: Registers) -> bool
+    ensures { λ r. ⌜ r ≡ (isCard words and isIommuType kind and leb length memoryLimit and soundFile words (fileOf words registers)) ⌝ }
 {
     if !registers::is_card(words) {
+        return false;
+    }
+    if !iommu::is_iommu_type(kind) {
         return false;
     }
     if address::MEMORY_LIMIT < length {
@@ -88,7 +93,8 @@ pub fn sound(state: &State, records: &[Mapping]) -> bool
     let count = state.count;
     let registers = state.registers;
     let words = state.words;
-    let device = sound_device(words, length, registers);
+    let kind = state.iommu_type;
+    let device = sound_device(words, kind, length, registers);
     // Where the noted length is known to be in range, the loop over records has one test less.
     if device {
         return iommu::sound(records, count, length);
@@ -164,6 +170,7 @@ fn fresh(card: Card, length: usize) -> State
         registers,
         running: 0,
         words: registers::words_of(card),
+        iommu_type: iommu::TYPE1V2,
     }
 }
 

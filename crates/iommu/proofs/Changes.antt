@@ -7,16 +7,16 @@ use mathlib.Core.List.{List, [], _∷_}
 use lib.Dec.{ltb}
 use lib.ListN.{length, length-append, length-drop}
 use lib.Seq.{take-append-seam}
-use borrow.Author.Tests.{ltb-true, ltb-false, lt-ltb, leb-true, eqb-false}
+use borrow.Author.Tests.{ltb-true, ltb-false, lt-ltb, eqb-false}
 use Rattle.answer.specs.Tests.{_and_, pick}
 use Rattle.answer.specs.declared.Verdict.the-variants.{Pass}
 use Rattle.answer.proofs.Tests.{and-made, or-false}
 use Rattle.answer.proofs.Checks.{then-pass, when-pass, unless-pass}
-use Rattle.address.specs.Address.{deviceLimit, memoryLimit, inDeviceRange}
+use Rattle.address.specs.Address.{memoryLimit}
 use Rattle.address.specs.declared.DeviceAddress.{DeviceAddress}
 use Rattle.iommu.specs.declared.Mapping.{Mapping}
-use Rattle.iommu.specs.Table.{Table, tableOf, capacity, end, soundMapping, soundMappingsFrom, soundTable, touches, anyOf, overlaps, insert, without, inUse, holding, Sound}
-use Rattle.iommu.specs.Requests.{mapChecks, unmapChecks}
+use Rattle.iommu.specs.Table.{Table, tableOf, capacity, end, soundMapping, soundMappingsFrom, soundTable, touches, anyOf, overlaps, insert, without, totalSize, inUse, holding, Sound}
+use Rattle.iommu.specs.Requests.{mapChecks}
 use Rattle.iommu.proofs.Soundness.{mapping-facts, sound-split, sound-join, sound-wider}
 use Rattle.iommu.proofs.Passes.{in-use-length}
 
@@ -53,6 +53,19 @@ length-without test [] = omega arith
 length-without test (m ∷ ms) = go (test m) (length-without test ms)
   where
     go : (s : Bool) → length (without test ms) ≤ length ms → length (pick s (without test ms) (m ∷ without test ms)) ≤ suc (length ms)
+    go true ih = unfold pick in omega arith
+    go false ih = unfold pick in omega arith
+
+-- ---- sizes
+
+-- those removed and those left make up all
+pub without-total : (test : Mapping → Bool) (ms : List Mapping) → totalSize test ms + totalSize (λ m. true) (without test ms) ≡ totalSize (λ m. true) ms
+unfolding without totalSize
+without-total test [] = refl
+without-total test (m ∷ ms) = go (test m) (without-total test ms)
+  where
+    go : (s : Bool) → totalSize test ms + totalSize (λ m. true) (without test ms) ≡ totalSize (λ m. true) ms
+        → pick s (m .size) 0 + totalSize test ms + totalSize (λ m. true) (pick s (without test ms) (m ∷ without test ms)) ≡ pick true (m .size) 0 + totalSize (λ m. true) ms
     go true ih = unfold pick in omega arith
     go false ih = unfold pick in omega arith
 
@@ -150,10 +163,3 @@ pub map-room : (size room : ℕ) (t : Table) (m : Mapping) → t .count ≤ leng
 map-room size room t m fits e =
     let r = map-passed size room (inUse t) m e .fits in
     omega (arith, in-use-length t fits)
-
--- what the end of the range asks
-pub unmap-range : (ms : List Mapping) (flags : ℕ) (d : DeviceAddress) (n : ℕ) → unmapChecks ms flags d n ≡ Pass → d .0 + n ≤ deviceLimit
-unfolding unmapChecks inDeviceRange
-unmap-range ms flags d n e =
-    let unaligned = then-pass _ _ (then-pass _ _ (then-pass _ _ e .1) .1) in
-    leb-true _ _ (unless-pass _ _ (then-pass _ _ (unaligned .1) .0))

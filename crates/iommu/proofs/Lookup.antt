@@ -7,14 +7,14 @@ use mathlib.Core.List.{List, [], _∷_}
 use mathlib.Core.Option.{Option, none, some}
 use lib.Dec.{ltb}
 use borrow.Author.Tests.{leb-true, ltb-true, le-leb}
-use Rattle.answer.specs.Tests.{pick}
+use Rattle.answer.specs.Tests.{_and_, _or_, pick}
 use Rattle.answer.proofs.Tests.{and-true, and-made}
 use Rattle.address.specs.declared.DeviceAddress.{DeviceAddress}
 use Rattle.address.specs.declared.MemoryAddress.{MemoryAddress}
 use Rattle.iommu.specs.declared.Mapping.{Mapping}
 use Rattle.iommu.specs.declared.Translation.{Translation}
 use Rattle.iommu.specs.declared.Translation.the-variants.{At, Nowhere}
-use Rattle.iommu.specs.Table.{end, holds, addressIn, leftIn, shown, translate, validRights, soundMappingsFrom, soundTable, touches, overlaps, insert, without}
+use Rattle.iommu.specs.Table.{end, holds, addressIn, leftIn, shown, translate, validRights, soundMappingsFrom, soundTable, touches, sticksOut, anyOf, overlaps, blocked, removed, insert, without}
 use Rattle.iommu.proofs.Soundness.{Facts, mapping-facts, sound-split}
 use Rattle.iommu.proofs.Changes.{apart-facts, overlaps-split}
 
@@ -169,6 +169,39 @@ module _ (test : Mapping → Bool) (ms : List Mapping) (a : Apart ms) (d : Devic
   pub translate-nowhere : translate ms d ≡ Nowhere → translate (without test ms) d ≡ Nowhere
   unfolding located unless
   translate-nowhere e = translate-without test ms a d ∙ rw (found-none d (find ms d) (sym (translate-find ms d) ∙ e))
+
+-- ---- the mapping that blocks an unmap under Type1
+
+-- what was found begins before the address
+unfoldable pub beginsBefore : DeviceAddress → Option Mapping → Bool
+beginsBefore d none = false
+beginsBefore d (some m) = ltb (m .device .0) (d .0)
+
+-- in a list in which no two mappings share an address it is the one that holds the range's start
+pub blocked-find : (d : DeviceAddress) (ms : List Mapping) → Apart ms → blocked d ms ≡ beginsBefore d (find ms d)
+unfolding blocked anyOf sticksOut Apart find beginsBefore
+blocked-find d [] a = refl
+blocked-find d (m ∷ ms) a = go (holds m d) refl (blocked-find d ms (a .1))
+  where
+    last : (s : Bool) → ((s and true) or false) ≡ s
+    last true = unfold _and_ _or_ in refl
+    last false = unfold _and_ _or_ in refl
+
+    other : (s t : Bool) → ((s and false) or t) ≡ t
+    other true t = unfold _and_ _or_ in refl
+    other false t = unfold _and_ _or_ in refl
+
+    go : (h : Bool) → holds m d ≡ h → blocked d ms ≡ beginsBefore d (find ms d)
+        → ((ltb (m .device .0) (d .0) and h) or blocked d ms) ≡ beginsBefore d (pick h (some m) (find ms d))
+    go true e ih = unfold pick in ap (λ (t : Bool). (ltb (m .device .0) (d .0) and true) or t) (ih ∙ ap (beginsBefore d) (a .0 d e)) ∙ last _
+    go false e ih = unfold pick in other _ _ ∙ ih
+
+-- so lists that find the same mappings have the same ones removed
+pub removed-same : (kind : ℕ) (ms ns : List Mapping) → Apart ms → Apart ns → ((d : DeviceAddress) → find ms d ≡ find ns d) → (d : DeviceAddress) (n : ℕ) → removed kind ms d n ≡ removed kind ns d n
+unfolding removed
+removed-same kind ms ns a b same d n =
+    let e : blocked d ms ≡ blocked d ns = blocked-find d ms a ∙ ap (beginsBefore d) (same d) ∙ sym (blocked-find d ns b) in
+    rw e
 
 -- ---- what a translation tells
 

@@ -4,7 +4,7 @@ use Prim.Native.Nat.{ℕ, zero, suc, _+_, _-_, _≤_, _<_}
 use native.Mathlib.Nat.{not-suc-le-zero, le-of-suc-le-suc}
 use native.Mathlib.Omega.{arith}
 use mathlib.Core.Path.{_≡_, refl, sym, _∙_, ap}
-use mathlib.Core.Bool.{Bool, true, false, not}
+use mathlib.Core.Bool.{Bool, true, false, not, true≢false}
 use mathlib.Core.List.{List, [], _∷_, _++_}
 use lib.Dec.{leb, ltb}
 use lib.ListN.{length, getD, take, drop, take-append-drop, List·getD-eq-default}
@@ -15,7 +15,7 @@ use Rattle.address.specs.Address.{deviceOffset}
 use Rattle.address.specs.declared.DeviceAddress.{DeviceAddress}
 use Rattle.iommu.specs.declared.Mapping.{Mapping}
 use Rattle.iommu.specs.declared.Translation.the-variants.{At, Nowhere}
-use Rattle.iommu.specs.Table.{blank, end, holds, shown, shownBy, translate, soundMapping, soundMappingsFrom, soundTable, touches, inside, anyOf, overlaps, cuts, insert, without, totalSize, insertedAt, withoutRun, sizesBetween, firstPast, sticksOut}
+use Rattle.iommu.specs.Table.{blank, end, holds, shown, shownBy, translate, soundMapping, soundMappingsFrom, soundTable, touches, inside, beginsIn, sticksOut, anyOf, overlaps, cuts, blocked, insert, without, totalSize, insertedAt, withoutRun, sizesBetween, firstPast}
 use Rattle.iommu.specs.Requests.{Removes}
 use Rattle.iommu.proofs.Soundness.{mapping-facts, sound-split, sound-at}
 use Rattle.iommu.proofs.Changes.{apart-facts, overlaps-split}
@@ -210,6 +210,16 @@ or-second : (s t : Bool) → s ≡ false → (s or t) ≡ t
 unfolding _or_
 or-second s t h = rw h
 
+or-none : (s : Bool) → (s or false) ≡ s
+unfolding _or_
+or-none true = refl
+or-none false = refl
+
+and-none : (s : Bool) → (s and false) ≡ false
+unfolding _and_
+and-none true = refl
+and-none false = refl
+
 or-implied : (s t : Bool) → (s ≡ true → t ≡ true) → (t or false) ≡ (s or t)
 unfolding _or_
 or-implied true t h = rw (h refl)
@@ -272,17 +282,38 @@ sticks-none : (m : Mapping) (d : DeviceAddress) → d .0 ≤ m .device .0 → st
 unfolding sticksOut
 sticks-none m d h = and-false _ _ (le-ltb _ _ h)
 
+pub sticks-blank : (d : DeviceAddress) → sticksOut blank d ≡ false
+unfolding sticksOut
+sticks-blank d = is-false _ (λ u. true≢false (sym (and-true _ _ u .1) ∙ blank-holds d))
+
+-- nor one that ends there or before
+sticks-passed : (m : Mapping) (d : DeviceAddress) → end m ≤ d .0 → sticksOut m d ≡ false
+unfolding sticksOut
+sticks-passed m d h = is-false _ (λ u. let f = holds-facts m d (and-true _ _ u .1) in omega (arith, f .1))
+
 sticks-behind : (size low : ℕ) (ms : List Mapping) (d : DeviceAddress) (i : ℕ) → soundMappingsFrom size low ms ≡ true → d .0 ≤ low → sticksOut (getD ms i blank) d ≡ false
 sticks-behind size low ms d i e h = go (ltb i (length ms)) refl
   where
     go : (s : Bool) → ltb i (length ms) ≡ s → sticksOut (getD ms i blank) d ≡ false
     go true t = sticks-none (getD ms i blank) d (omega (arith, begins-from size low ms i e (ltb-true _ _ t)))
-    go false t = rw (List·getD-eq-default ms blank {n = i} (ltb-false _ _ t)) (unfold sticksOut in is-false _ (λ u. let z : holds blank d ≡ true = and-true _ _ u .1 in let f = holds-facts blank d z in omega arith))
+    go false t = rw (List·getD-eq-default ms blank {n = i} (ltb-false _ _ t)) (sticks-blank d)
+
+-- one that does is in the table
+pub sticks-within : (ms : List Mapping) (d : DeviceAddress) (i : ℕ) → sticksOut (getD ms i blank) d ≡ true → i < length ms
+sticks-within ms d i h = go (ltb i (length ms)) refl
+  where
+    go : (s : Bool) → ltb i (length ms) ≡ s → i < length ms
+    go true t = ltb-true _ _ t
+    go false t = absurd (true≢false (sym h ∙ rw (List·getD-eq-default ms blank {n = i} (ltb-false _ _ t)) (sticks-blank d)))
 
 -- it does where it begins before an address and ends past it
 sticks-is : (m : Mapping) (d : DeviceAddress) → d .0 < end m → sticksOut m d ≡ ltb (m .device .0) (d .0)
 unfolding sticksOut holds
 sticks-is m d h = same-test _ _ (λ e. and-true _ _ e .0) (λ e. and-made _ _ e (and-made _ _ (le-leb (m .device .0) (d .0) (omega (arith, ltb-true (m .device .0) (d .0) e))) (lt-ltb _ _ h)))
+
+-- one that ends past an address and does not stick out there begins there or behind
+begins-behind : (m : Mapping) (d : DeviceAddress) → d .0 < end m → sticksOut m d ≡ false → d .0 ≤ m .device .0
+begins-behind m d h e = ltb-false (m .device .0) (d .0) (sym (sticks-is m d h) ∙ e)
 
 -- whether a range cuts one mapping
 unfoldable cutsOne : DeviceAddress → ℕ → Mapping → Bool
@@ -306,19 +337,11 @@ module _ (d : DeviceAddress) (n : ℕ) (m : Mapping) where
     unfolding cutsOne touches
     cuts-passed = and-false _ _ (and-false _ _ (le-ltb _ _ past))
 
-    inside-passed : 0 < m .size → inside d n m ≡ false
-    unfolding inside
-    inside-passed some = and-false _ _ (lt-leb (d .0) (m .device .0) (omega arith))
-
-  -- a mapping that ends in the range is cut where it sticks out at its start, and else lies inside
+  -- a mapping that ends in the range is cut where it sticks out at its start
   module _ (reach : d .0 < end m) (ends : end m ≤ d .0 + n) (some : 0 < m .size) where
     cuts-ending : cutsOne d n m ≡ sticksOut m d
     unfolding cutsOne touches inside
     cuts-ending = cut-at-start _ _ _ _ (lt-ltb _ _ reach) (lt-ltb (m .device .0) (d .0 + n) (omega arith)) (le-leb _ _ ends) ∙ not-leb (d .0) (m .device .0) ∙ sym (sticks-is m d reach)
-
-    inside-ending : sticksOut m d ≡ false → inside d n m ≡ true
-    unfolding inside
-    inside-ending e = and-made _ _ (le-leb (d .0) (m .device .0) (ltb-false (m .device .0) (d .0) (sym (sticks-is m d reach) ∙ e))) (le-leb _ _ ends)
 
   -- one that ends past it is cut where it sticks out at the range's end
   module _ (past : d .0 + n < end m) where
@@ -334,7 +357,7 @@ module _ (d : DeviceAddress) (n : ℕ) (m : Mapping) where
         go true = unfold _and_ in rw (lt-ltb (d .0) (end m) (omega arith))
         go false = unfold _and_ in rw (lt-ltb (d .0) (end m) (omega arith))
 
--- a range that ends where mappings begin, or before, cuts none of them, and none lies inside
+-- a range that ends where mappings begin, or before, cuts none of them
 cuts-none : (size low : ℕ) (d : DeviceAddress) (n : ℕ) (ms : List Mapping) → soundMappingsFrom size low ms ≡ true → d .0 + n ≤ low → anyOf (cutsOne d n) ms ≡ false
 unfolding anyOf _or_
 cuts-none size low d n [] e h = refl
@@ -344,18 +367,6 @@ cuts-none size low d n (m ∷ ms) e h =
     let l = p .0 in
     let s = f .filled in
     rw (cuts-out d n m (omega arith), sticks-none m (deviceOffset d n) (omega arith)) (cuts-none size (end m) d n ms (p .2) (omega arith))
-
-without-none : (size low : ℕ) (d : DeviceAddress) (n : ℕ) (ms : List Mapping) → soundMappingsFrom size low ms ≡ true → d .0 + n ≤ low → (without (inside d n) ms ≡ ms) × (totalSize (inside d n) ms ≡ 0)
-unfolding without totalSize
-without-none size low d n [] e h = (refl, refl)
-without-none size low d n (m ∷ ms) e h =
-    let p = sound-split size low m ms e in
-    let f = mapping-facts size m (p .1) in
-    let l = p .0 in
-    let s = f .filled in
-    let o = inside-out d n m (omega arith) in
-    let r = without-none size (end m) d n ms (p .2) (omega arith) in
-    (pick-false _ _ _ o ∙ ap (λ (xs : List Mapping). m ∷ xs) (r .0), rw (pick-false (inside d n m) (m .size) 0 o, r .1))
 
 -- a range cuts a mapping where the one at the place of its first address sticks out there, or the one at the place of its end does
 cuts-from : (size low : ℕ) (d : DeviceAddress) (n : ℕ) (ms : List Mapping) → soundMappingsFrom size low ms ≡ true
@@ -388,9 +399,66 @@ pub cuts-placed : (size : ℕ) (d : DeviceAddress) (n : ℕ) (ms : List Mapping)
 unfolding soundTable cuts cutsOne
 cuts-placed size d n ms e = cuts-from size 0 d n ms e
 
+-- ---- what an unmap removes, by either rule
+
+-- a mapping that begins before an address and holds it stands at the place
+blocked-none : (size low : ℕ) (d : DeviceAddress) (ms : List Mapping) → soundMappingsFrom size low ms ≡ true → d .0 ≤ low → anyOf (λ m. sticksOut m d) ms ≡ false
+unfolding anyOf _or_
+blocked-none size low d [] e h = refl
+blocked-none size low d (m ∷ ms) e h =
+    let p = sound-split size low m ms e in
+    let l = p .0 in
+    rw (sticks-none m d (omega arith)) (blocked-none size (end m) d ms (p .2) (omega arith))
+
+blocked-from : (size low : ℕ) (d : DeviceAddress) (ms : List Mapping) → soundMappingsFrom size low ms ≡ true → anyOf (λ m. sticksOut m d) ms ≡ sticksOut (getD ms (firstPast d ms) blank) d
+unfolding anyOf
+blocked-from size low d [] e = sym (sticks-blank d)
+blocked-from size low d (m ∷ ms) e =
+    let p = sound-split size low m ms e in
+    go (leb (end m) (d .0)) refl (p .2) (blocked-from size (end m) d ms (p .2))
+  where
+    go : (s : Bool) → leb (end m) (d .0) ≡ s → soundMappingsFrom size (end m) ms ≡ true → anyOf (λ m. sticksOut m d) ms ≡ sticksOut (getD ms (firstPast d ms) blank) d
+        → (sticksOut m d or anyOf (λ m. sticksOut m d) ms) ≡ sticksOut (getD (m ∷ ms) (firstPast d (m ∷ ms)) blank) d
+    go true t rest ih =
+        let l = leb-true _ _ t in
+        rw (past-suc d m ms l) (or-second _ _ (sticks-passed m d l) ∙ ih)
+    go false t rest ih =
+        let g = leb-false _ _ t in
+        rw (past-zero d m ms g, blocked-none size (end m) d ms rest (omega arith)) (or-none _)
+
+pub blocked-placed : (size : ℕ) (d : DeviceAddress) (ms : List Mapping) → soundTable size ms ≡ true → blocked d ms ≡ sticksOut (getD ms (firstPast d ms) blank) d
+unfolding soundTable blocked
+blocked-placed size d ms e = blocked-from size 0 d ms e
+
+-- What the rules have in common, by where a mapping lies: none before the range goes, and all that lie inside it do. They differ in those
+-- that end past it, of which under `astride` those go that begin in it, and else none.
+pub record Rule (d : DeviceAddress) (n : ℕ) (astride : Bool) (test : Mapping → Bool) : Type 0 where
+  pub before : (m : Mapping) → 0 < m .size → end m ≤ d .0 → test m ≡ false
+  pub within : (m : Mapping) → 0 < m .size → d .0 ≤ m .device .0 → end m ≤ d .0 + n → test m ≡ true
+  pub past : (m : Mapping) → d .0 ≤ m .device .0 → d .0 + n < end m → test m ≡ (astride and ltb (m .device .0) (d .0 + n))
+
+module _ (d : DeviceAddress) (n : ℕ) where
+  pub inside-rule : Rule d n false (inside d n)
+  unfolding inside _and_
+  inside-rule =
+      record {
+        before = λ m some h. and-false _ _ (lt-leb (d .0) (m .device .0) (omega arith));
+        within = λ m some h l. and-made _ _ (le-leb _ _ h) (le-leb _ _ l);
+        past = λ m h o. inside-out d n m o;
+      }
+
+  pub begins-rule : Rule d n true (beginsIn d n)
+  unfolding beginsIn _and_
+  begins-rule =
+      record {
+        before = λ m some h. and-false _ _ (lt-leb (d .0) (m .device .0) (omega arith));
+        within = λ m some h l. and-made _ _ (le-leb _ _ h) (lt-ltb (m .device .0) (d .0 + n) (omega arith));
+        past = λ m h o. rw (le-leb _ _ h);
+      }
+
 -- a mapping in front of those that go, and the first of them
-module _ (d : DeviceAddress) (n : ℕ) (m : Mapping) (ms : List Mapping) where
-  removes-behind : (from to : ℕ) → inside d n m ≡ false → Removes ms d n from to → Removes (m ∷ ms) d n (suc from) (suc to)
+module _ (test : Mapping → Bool) (m : Mapping) (ms : List Mapping) where
+  removes-behind : (from to : ℕ) → test m ≡ false → Removes test ms from to → Removes test (m ∷ ms) (suc from) (suc to)
   unfolding without totalSize withoutRun sizesBetween
   removes-behind from to out r =
       let o = r .order in
@@ -400,59 +468,92 @@ module _ (d : DeviceAddress) (n : ℕ) (m : Mapping) (ms : List Mapping) where
         order = omega arith;
         end = omega arith;
         rest = pick-false _ _ _ out ∙ ap (λ (xs : List Mapping). m ∷ xs) (r .rest);
-        size = rw (pick-false (inside d n m) (m .size) 0 out, z) (let q = r .size in omega arith);
+        size = rw (pick-false (test m) (m .size) 0 out, z) (let q = r .size in omega arith);
       }
 
-  removes-one : (to : ℕ) → inside d n m ≡ true → Removes ms d n 0 to → Removes (m ∷ ms) d n 0 (suc to)
+  removes-one : (to : ℕ) → test m ≡ true → Removes test ms 0 to → Removes test (m ∷ ms) 0 (suc to)
   unfolding without totalSize withoutRun sizesBetween pick
-  removes-one to within r =
+  removes-one to goes r =
       let b = r .end in
       let y : suc to - 0 ≡ suc to = omega arith in
       let z : to - 0 ≡ to = omega arith in
       record {
         order = omega arith;
         end = omega arith;
-        rest = pick-true _ _ _ within ∙ r .rest;
-        size = rw (within, y) (ap (λ (k : ℕ). m .size + k) (rw z at (r .size)));
+        rest = pick-true _ _ _ goes ∙ r .rest;
+        size = rw (goes, y) (ap (λ (k : ℕ). m .size + k) (rw z at (r .size)));
       }
 
-  removes-nothing : inside d n m ≡ false → without (inside d n) ms ≡ ms → totalSize (inside d n) ms ≡ 0 → Removes (m ∷ ms) d n 0 0
+  removes-nothing : test m ≡ false → Removes test ms 0 0 → Removes test (m ∷ ms) 0 0
   unfolding without totalSize withoutRun sizesBetween pick
-  removes-nothing out r z = record { order = omega arith; end = omega arith; rest = pick-false _ _ _ out ∙ ap (λ (xs : List Mapping). m ∷ xs) r; size = rw (out, z) }
+  removes-nothing out r = record { order = omega arith; end = omega arith; rest = pick-false _ _ _ out ∙ ap (λ (xs : List Mapping). m ∷ xs) (r .rest); size = rw out (let q = r .size in omega arith) }
 
--- where it cuts none, the mappings inside it stand side by side
-removes-from : (size low : ℕ) (d : DeviceAddress) (n : ℕ) (ms : List Mapping) → soundMappingsFrom size low ms ≡ true → anyOf (cutsOne d n) ms ≡ false
-    → Removes ms d n (firstPast d ms) (firstPast (deviceOffset d n) ms)
-unfolding anyOf without totalSize withoutRun sizesBetween
-removes-from size low d n [] e c = record { order = unfold firstPast in omega arith; end = past-bound (deviceOffset d n) []; rest = unfold firstPast in refl; size = unfold firstPast in refl }
-removes-from size low d n (m ∷ ms) e c =
-    let p = sound-split size low m ms e in
-    let o = or-false _ _ c in
-    go (leb (end m) (d .0)) refl (leb (end m) (d .0 + n)) refl (mapping-facts size m (p .1) .filled) (p .2) (o .0) (removes-from size (end m) d n ms (p .2) (o .1))
-  where
-    go : (s : Bool) → leb (end m) (d .0) ≡ s → (t : Bool) → leb (end m) (d .0 + n) ≡ t → 0 < m .size → soundMappingsFrom size (end m) ms ≡ true → cutsOne d n m ≡ false
-        → Removes ms d n (firstPast d ms) (firstPast (deviceOffset d n) ms) → Removes (m ∷ ms) d n (firstPast d (m ∷ ms)) (firstPast (deviceOffset d n) (m ∷ ms))
-    go true u t v some rest c ih =
-        let l = leb-true (end m) (d .0) u in
-        rw (past-suc d m ms l, past-suc (deviceOffset d n) m ms (omega arith)) (removes-behind d n m ms _ _ (inside-passed d n m l some) ih)
-    go false u true v some rest c ih =
-        let g = leb-false (end m) (d .0) u in
-        let l = leb-true (end m) (d .0 + n) v in
-        rw (past-zero d m ms g, past-suc (deviceOffset d n) m ms l) (removes-one d n m ms _ (inside-ending d n m g l some (sym (cuts-ending d n m g l some) ∙ c)) (rw (past-none d size (end m) ms rest g) at ih))
-    go false u false v some rest c ih =
-        let g = leb-false (end m) (d .0) u in
-        let o = leb-false (end m) (d .0 + n) v in
-        let r = without-none size (end m) d n ms rest (omega arith) in
-        rw (past-zero d m ms g, past-zero (deviceOffset d n) m ms o) (removes-nothing d n m ms (inside-out d n m o) (r .0) (r .1))
-
-pub removes-placed : (size : ℕ) (d : DeviceAddress) (n : ℕ) (ms : List Mapping) → soundTable size ms ≡ true → cuts d n ms ≡ false → Removes ms d n (firstPast d ms) (firstPast (deviceOffset d n) ms)
-unfolding soundTable cuts cutsOne
-removes-placed size d n ms e c = removes-from size 0 d n ms e c
-
--- where none lies inside, any place does, as the end does
-pub removes-end : (ms : List Mapping) (d : DeviceAddress) (n at : ℕ) → Removes ms d n at at → Removes ms d n (length ms) (length ms)
+-- where the test holds of none, any place does, as the end does
+pub removes-end : (test : Mapping → Bool) (ms : List Mapping) (at : ℕ) → Removes test ms at at → Removes test ms (length ms) (length ms)
 unfolding withoutRun sizesBetween totalSize
-removes-end ms d n at r =
+removes-end test ms at r =
     let z : at - at ≡ 0 = omega arith in
     let y : length ms - length ms ≡ 0 = omega arith in
     record { order = omega arith; end = omega arith; rest = r .rest ∙ take-append-drop at ms ∙ sym (take-append-drop (length ms) ms); size = r .size ∙ rw (z, y) }
+
+removes-empty : (test : Mapping → Bool) → Removes test [] 0 0
+unfolding without totalSize withoutRun sizesBetween
+removes-empty test = record { order = omega arith; end = omega arith; rest = refl; size = refl }
+
+pub removes-none : (ms : List Mapping) → Removes (λ m. false) ms 0 0
+removes-none [] = removes-empty _
+removes-none (m ∷ ms) = removes-nothing _ m ms refl (removes-none ms)
+
+-- one past the last that goes, where no mapping blocks: the place of the range's end, or behind the mapping there where it goes too
+unfoldable pub pastRun : Bool → DeviceAddress → List Mapping → ℕ
+pastRun astride e ms = firstPast e ms + pick (astride and sticksOut (getD ms (firstPast e ms) blank) e) 1 0
+
+module _ (astride : Bool) (e : DeviceAddress) (m : Mapping) (ms : List Mapping) where
+  run-suc : end m ≤ e .0 → pastRun astride e (m ∷ ms) ≡ suc (pastRun astride e ms)
+  unfolding pastRun
+  run-suc h = rw (past-suc e m ms h) (omega arith)
+
+  run-here : e .0 < end m → pastRun astride e (m ∷ ms) ≡ pick (astride and ltb (m .device .0) (e .0)) 1 0
+  unfolding pastRun
+  run-here h = rw (past-zero e m ms h, sticks-is m e h) (omega arith)
+
+module _ (d : DeviceAddress) (n : ℕ) (astride : Bool) (test : Mapping → Bool) (rule : Rule d n astride test) where
+  removes-rest : (size low : ℕ) (ms : List Mapping) → soundMappingsFrom size low ms ≡ true → d .0 + n ≤ low → Removes test ms 0 0
+  removes-rest size low [] e h = removes-empty test
+  removes-rest size low (m ∷ ms) e h =
+      let p = sound-split size low m ms e in
+      let f = mapping-facts size m (p .1) in
+      let l = p .0 in
+      let s = f .filled in
+      removes-nothing test m ms (rule .past m (omega arith) (omega arith) ∙ rw (le-ltb (m .device .0) (d .0 + n) (omega arith)) (and-none astride)) (removes-rest size (end m) ms (p .2) (omega arith))
+
+  -- where none blocks, the mappings that go stand side by side
+  removes-from : (size low : ℕ) (ms : List Mapping) → soundMappingsFrom size low ms ≡ true → anyOf (λ m. sticksOut m d) ms ≡ false → Removes test ms (firstPast d ms) (pastRun astride (deviceOffset d n) ms)
+  unfolding anyOf
+  removes-from size low [] e c = unfold pastRun firstPast in rw (sticks-blank (deviceOffset d n), and-none astride) (unfold pick in removes-empty test)
+  removes-from size low (m ∷ ms) e c =
+      let p = sound-split size low m ms e in
+      let o = or-false _ _ c in
+      go (leb (end m) (d .0)) refl (leb (end m) (d .0 + n)) refl (mapping-facts size m (p .1) .filled) (p .2) (o .0) (removes-from size (end m) ms (p .2) (o .1))
+    where
+      last : (s : Bool) → test m ≡ s → Removes test ms 0 0 → Removes test (m ∷ ms) 0 (pick s 1 0)
+      last true t r = unfold pick in removes-one test m ms 0 t r
+      last false t r = unfold pick in removes-nothing test m ms t r
+
+      go : (s : Bool) → leb (end m) (d .0) ≡ s → (t : Bool) → leb (end m) (d .0 + n) ≡ t → 0 < m .size → soundMappingsFrom size (end m) ms ≡ true → sticksOut m d ≡ false
+          → Removes test ms (firstPast d ms) (pastRun astride (deviceOffset d n) ms) → Removes test (m ∷ ms) (firstPast d (m ∷ ms)) (pastRun astride (deviceOffset d n) (m ∷ ms))
+      go true u t v some rest c ih =
+          let l = leb-true (end m) (d .0) u in
+          rw (past-suc d m ms l, run-suc astride (deviceOffset d n) m ms (omega arith)) (removes-behind test m ms _ _ (rule .before m some l) ih)
+      go false u true v some rest c ih =
+          let g = leb-false (end m) (d .0) u in
+          let l = leb-true (end m) (d .0 + n) v in
+          rw (past-zero d m ms g, run-suc astride (deviceOffset d n) m ms l) (removes-one test m ms _ (rule .within m some (begins-behind m d g c) l) (rw (past-none d size (end m) ms rest g) at ih))
+      go false u false v some rest c ih =
+          let g = leb-false (end m) (d .0) u in
+          let o = leb-false (end m) (d .0 + n) v in
+          rw (past-zero d m ms g, run-here astride (deviceOffset d n) m ms o) (last _ (rule .past m (begins-behind m d g c) o) (removes-rest size (end m) ms rest (omega arith)))
+
+  pub removes-placed : (size : ℕ) (ms : List Mapping) → soundTable size ms ≡ true → blocked d ms ≡ false → Removes test ms (firstPast d ms) (pastRun astride (deviceOffset d n) ms)
+  unfolding soundTable blocked
+  removes-placed size ms e c = removes-from size 0 ms e c

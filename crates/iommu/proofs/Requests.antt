@@ -7,23 +7,25 @@ use mathlib.Core.List.{List}
 use lib.Dec.{leb, ltb, eqb}
 use lib.ListN.{length, getD, length-append, length-drop, List·getD-eq-default}
 use lib.Seq.{length-take-le}
-use borrow.Author.Tests.{eqb-true, ltb-true, ltb-false, le-leb}
+use borrow.Author.Tests.{eqb-true, ltb-true, ltb-false, lt-ltb, le-leb}
 use Rattle.answer.specs.Tests.{_and_, _or_, pick}
+use Rattle.answer.specs.declared.Verdict.{Verdict}
 use Rattle.answer.specs.declared.Verdict.the-variants.{Pass, Fail}
-use Rattle.answer.proofs.Tests.{and-made, pick-true}
+use Rattle.answer.proofs.Tests.{and-made, pick-true, pick-false}
 use Rattle.answer.proofs.Checks.{never}
-use Rattle.address.specs.Address.{deviceLimit, deviceOffset, inDeviceRange, inMemoryRange}
+use Rattle.address.specs.Address.{deviceLimit, memoryLimit, deviceOffset, inDeviceRange, inMemoryRange}
 use Rattle.address.specs.declared.DeviceAddress.{DeviceAddress}
 use Rattle.iommu.specs.declared.Mapping.{Mapping}
 use Rattle.iommu.specs.declared.Translation.the-variants.{At, Nowhere}
+use Rattle.iommu.specs.declared.Search.{Search}
 use Rattle.iommu.specs.declared.Unmap.{Unmap}
-use Rattle.iommu.specs.Table.{blank, holds, shown, shownBy, translate, mapped, inRange, soundTable, overlaps, cuts, insert, insertedAt, withoutRun, firstPast, Placed, sticksOut}
+use Rattle.iommu.specs.Table.{blank, holds, shown, shownBy, translate, mapped, inRange, soundTable, sticksOut, overlaps, cuts, blocked, removed, insert, insertedAt, withoutRun, firstPast, Placed}
 use Rattle.iommu.specs.Halving.{halved, HalvingFinds}
-use Rattle.iommu.specs.Requests.{mapChecks, unmapChecks, endOf, refusedUnmap, removingRun, Removes, Unmaps}
+use Rattle.iommu.specs.Requests.{mapChecks, endOf, refusedUnmap, removingRun, Ends, Removes, Plans, Remains}
 use Rattle.iommu.proofs.Soundness.{Facts, mapping-facts, sound-at}
-use Rattle.iommu.proofs.Changes.{map-passed}
+use Rattle.iommu.proofs.Changes.{without-total, without-sound, map-passed}
 use Rattle.iommu.proofs.Halving.{searched-placed}
-use Rattle.iommu.proofs.Order.{past-bound, blank-holds, translate-placed, insert-placed, overlaps-placed, cuts-placed, removes-placed, removes-end}
+use Rattle.iommu.proofs.Order.{past-bound, blank-holds, translate-placed, insert-placed, overlaps-placed, sticks-within, cuts-placed, blocked-placed, Rule, pastRun, removes-placed, removes-end}
 
 -- ---- look-up
 
@@ -87,32 +89,53 @@ pub end-is : (d : DeviceAddress) (n : ℕ) → inDeviceRange d n ≡ true → en
 unfolding endOf
 end-is d n h = pick-true _ _ _ h
 
-module _ (size : ℕ) (ms : List Mapping) (d : DeviceAddress) (n from to : ℕ) (first last : Bool) (x y : Mapping) (sound : soundTable size ms ≡ true) (inside : inDeviceRange d n ≡ true)
-    (p : Placed ms d from first) (ex : x ≡ getD ms from blank) (q : Placed ms (endOf d n) to last) (ey : y ≡ getD ms to blank) where
+module _ {ms : List Mapping} {d : DeviceAddress} {n count : ℕ} {first : Search} {x : Mapping} {last : Search} {y : Mapping} (h : Ends ms d n count first x last y) (inRange : inDeviceRange d n ≡ true) where
+  past-place : last .lo ≡ firstPast (deviceOffset d n) ms
+  past-place = rw (end-is d n inRange) at (h .past .place)
+
   pub cuts-found : cuts d n ms ≡ (sticksOut x d or sticksOut y (endOf d n))
-  cuts-found =
-      let e = end-is d n inside in
-      let t : to ≡ firstPast (deviceOffset d n) ms = rw e at (q .place) in
-      rw (ex, ey, e, t, p .place) (cuts-placed size d n ms sound)
+  cuts-found = rw (h .at-start, h .at-past, end-is d n inRange, past-place, h .start .place) (cuts-placed memoryLimit d n ms (h .sound))
 
-  pub removes-found : cuts d n ms ≡ false → Removes ms d n from to
-  removes-found c =
-      let t : to ≡ firstPast (deviceOffset d n) ms = rw (end-is d n inside) at (q .place) in
-      rw (t, p .place) (removes-placed size d n ms sound c)
+  pub blocked-found : blocked d ms ≡ sticksOut x d
+  blocked-found = rw (h .at-start, h .start .place) (blocked-placed memoryLimit d ms (h .sound))
 
-module _ (ms : List Mapping) (flags : ℕ) (d : DeviceAddress) (n : ℕ) (r : Unmap) where
-  pub unmaps-refused : (code : ℕ) → unmapChecks ms flags d n ≡ Fail code 0 → r ≡ refusedUnmap code → Unmaps ms flags d n r
-  unmaps-refused code e is = rw is (record { checks = sym e; range = λ h. never code 0 h })
+  -- by either rule, where no mapping blocks: up to the range's end, and one more where that goes too
+  module _ {astride : Bool} {test : Mapping → Bool} (rule : Rule d n astride test) (free : sticksOut x d ≡ false) where
+    run-found : Removes test ms (first .lo) (last .lo + pick (astride and sticksOut y (endOf d n)) 1 0)
+    unfolding pastRun
+    run-found = rw (h .at-past, end-is d n inRange, past-place, h .start .place) (removes-placed d n astride test rule memoryLimit ms (h .sound) (blocked-found ∙ free))
+
+    pub removes-found : (astride and sticksOut y (endOf d n)) ≡ false → Removes test ms (first .lo) (last .lo)
+    removes-found e =
+        let r : Removes test ms (first .lo) (last .lo + 0) = rw (pick-false {A = ℕ} _ 1 0 e) at run-found in
+        let z : last .lo + 0 ≡ last .lo = omega arith in
+        rw z at r
+
+    pub removes-one-more : (astride and sticksOut y (endOf d n)) ≡ true → Removes test ms (first .lo) (last .lo + 1)
+    removes-one-more e = rw (pick-true {A = ℕ} _ 1 0 e) at run-found
+
+  -- the place behind the mapping that ends past the range
+  pub behind-found : sticksOut y (endOf d n) ≡ true → pick (ltb (last .lo) count) (last .lo + 1) (last .lo) ≡ last .lo + 1
+  behind-found sticks = pick-true _ _ _ (lt-ltb (last .lo) count (rw (← h .long) (sticks-within ms (endOf d n) (last .lo) (rw (h .at-past) at sticks))))
+
+module _ {v : Verdict} {test : Mapping → Bool} {ms : List Mapping} where
+  pub plans-refused : {r : Unmap} {code : ℕ} → v ≡ Fail code 0 → r ≡ refusedUnmap code → Plans v test ms r
+  plans-refused {r} {code} e is = rw is (record { checks = sym e; range = λ h. never code 0 h })
 
   -- where the places are one, the count stands for both
-  removing-range : (count from to : ℕ) (one : Bool) → eqb from to ≡ one → length ms ≡ count → Removes ms d n from to → unmapChecks ms flags d n ≡ Pass
-      → Unmaps ms flags d n (pick one (record { verdict = Pass; from = count; to = count }) (record { verdict = Pass; from = from; to = to }))
+  removing-range : (count from to : ℕ) (one : Bool) → eqb from to ≡ one → length ms ≡ count → Removes test ms from to → v ≡ Pass
+      → Plans v test ms (pick one (record { verdict = Pass; from = count; to = count }) (record { verdict = Pass; from = from; to = to }))
   unfolding pick
   removing-range count from to true t long h e =
-      let l : Removes ms d n from from = rw (sym (eqb-true from to t)) at h in
-      record { checks = sym e; range = λ _. rw (← long) (removes-end ms d n from l) }
+      let l : Removes test ms from from = rw (sym (eqb-true from to t)) at h in
+      record { checks = sym e; range = λ _. rw (← long) (removes-end test ms from l) }
   removing-range count from to false t long h e = record { checks = sym e; range = λ _. h }
 
-  pub unmaps-removing : (count from to : ℕ) → unmapChecks ms flags d n ≡ Pass → length ms ≡ count → Removes ms d n from to → r ≡ removingRun count from to → Unmaps ms flags d n r
+  pub plans-removing : {r : Unmap} {count from to : ℕ} → v ≡ Pass → length ms ≡ count → Removes test ms from to → r ≡ removingRun count from to → Plans v test ms r
   unfolding removingRun
-  unmaps-removing count from to e long h is = rw is (removing-range count from to _ refl long h e)
+  plans-removing {r} {count} {from} {to} e long h is = rw is (removing-range count from to _ refl long h e)
+
+-- ---- both rules at once
+
+pub remains : Remains
+remains = record { sound = λ kind size ms d n. without-sound (removed kind ms d n) size ms; sizes = λ kind ms d n. without-total (removed kind ms d n) ms }

@@ -17,6 +17,17 @@ use Rattle.iommu.specs.declared.Translation.the-variants.{At, Nowhere}
 abbrev pub capacity : ℕ
 capacity = 4096
 
+-- rules 1.19, 3.23 and 3.24: the numbers of the IOMMU types that a container may be of; VFIO_TYPE1_IOMMU, and VFIO_TYPE1v2_IOMMU of later kernel
+-- headers
+abbrev pub type1 : ℕ
+type1 = 1
+
+abbrev pub type1v2 : ℕ
+type1v2 = 3
+
+unfoldable pub isIommuType : ℕ → Bool
+isIommuType kind = eqb kind type1 or eqb kind type1v2
+
 -- what a list of mappings reads as past its end
 abbrev pub blank : Mapping
 blank = record { device = record { 0 = 0 }; memory = record { 0 = 0 }; size = 0; rights = 0 }
@@ -99,6 +110,14 @@ touches d n m = ltb (d .0) (end m) and ltb (m .device .0) (d .0 + n)
 unfoldable pub inside : DeviceAddress → ℕ → Mapping → Bool
 inside d n m = leb (d .0) (m .device .0) and leb (end m) (d .0 + n)
 
+-- rule 3.25: a mapping begins in the range
+unfoldable pub beginsIn : DeviceAddress → ℕ → Mapping → Bool
+beginsIn d n m = leb (d .0) (m .device .0) and ltb (m .device .0) (d .0 + n)
+
+-- a mapping begins before a device address that it holds
+unfoldable pub sticksOut : Mapping → DeviceAddress → Bool
+sticksOut m d = ltb (m .device .0) (d .0) and holds m d
+
 -- the test holds of some mapping
 unfoldable pub anyOf : (Mapping → Bool) → List Mapping → Bool
 anyOf test [] = false
@@ -113,6 +132,15 @@ overlaps d n ms = anyOf (touches d n) ms
 unfoldable pub cuts : DeviceAddress → ℕ → List Mapping → Bool
 cuts d n ms = anyOf (λ m. touches d n m and not (inside d n m)) ms
 
+-- rule 3.25: a mapping begins before the range and holds its start
+unfoldable pub blocked : DeviceAddress → List Mapping → Bool
+blocked d ms = anyOf (λ m. sticksOut m d) ms
+
+-- rules 3.20 and 3.25: which of the mappings an unmap removes, by the IOMMU type: under Type1 those that begin in the range, or none where
+-- one blocks; under Type1v2 those that lie inside it
+unfoldable pub removed : ℕ → List Mapping → DeviceAddress → ℕ → Mapping → Bool
+removed kind ms d n = pick (eqb kind type1) (pick (blocked d ms) (λ m. false) (beginsIn d n)) (inside d n)
+
 -- ---- changes
 
 -- rule 3.18: with one more mapping, at its place in the order of device addresses
@@ -120,12 +148,12 @@ unfoldable pub insert : Mapping → List Mapping → List Mapping
 insert m [] = m ∷ []
 insert m (x ∷ xs) = pick (ltb (m .device .0) (x .device .0)) (m ∷ x ∷ xs) (x ∷ insert m xs)
 
--- rule 3.20: without those of which the test holds
+-- rules 3.20 and 3.25: without those of which the test holds
 unfoldable pub without : (Mapping → Bool) → List Mapping → List Mapping
 without test [] = []
 without test (m ∷ ms) = pick (test m) (without test ms) (m ∷ without test ms)
 
--- rule 3.20: the sum of the sizes of those of which the test holds
+-- rules 3.20 and 3.25: the sum of the sizes of those of which the test holds, each whole
 unfoldable pub totalSize : (Mapping → Bool) → List Mapping → ℕ
 totalSize test [] = 0
 totalSize test (m ∷ ms) = pick (test m) (m .size) 0 + totalSize test ms
@@ -180,7 +208,3 @@ firstPast d (m ∷ ms) = pick (leb (end m) (d .0)) (suc (firstPast d ms)) 0
 pub record Placed (ms : List Mapping) (d : DeviceAddress) (at : ℕ) (held : Bool) : Type 0 where
   pub place : at ≡ firstPast d ms
   pub holder : held ≡ holds (getD ms at blank) d
-
--- a mapping begins before a device address that it holds
-unfoldable pub sticksOut : Mapping → DeviceAddress → Bool
-sticksOut m d = ltb (m .device .0) (d .0) and holds m d

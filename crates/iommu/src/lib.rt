@@ -1,22 +1,30 @@
 // The mapping table of an IOMMU: records that the caller lends, of which the first `count` are in use, by rising device address. The others
 // are stale: they are not looked at, and change only where they are put to use.
 ghost use mathlib.Core.Path.{_≡_};
-ghost use mathlib.Core.Bool.{true, not};
+ghost use mathlib.Core.Bool.{true, false, not};
 ghost use mathlib.Core.List.{List};
 ghost use Prim.Native.Nat.{_+_, _-_, _≤_, _<_};
 ghost use lib.Dec.{leb, ltb};
 ghost use lib.ListN.{length, getD};
-ghost use Rattle.answer.specs.Tests.{_and_};
-ghost use Rattle.address.specs.Address.{deviceLimit, memoryLimit, aligned};
-ghost use Rattle.iommu.specs.Table.{capacity, blank, holds as held, validRights, alignedMapping, inRange, soundMapping, soundTable, nextLow, shownBy, sticksOut, tableOf, inUse, holding, insertedAt, withoutRun, sizesBetween, Sound, Placed};
+ghost use Rattle.answer.specs.Tests.{_and_, pick};
+ghost use Rattle.answer.specs.Codes.{Cuts};
+ghost use Rattle.answer.specs.Checks.{_when_};
+ghost use Rattle.answer.specs.declared.Verdict.the-variants.{Pass};
+ghost use Rattle.address.specs.Address.{deviceLimit, memoryLimit, aligned, inDeviceRange};
+ghost use Rattle.iommu.specs.Table.{capacity, isIommuType, blank, holds as held, validRights, alignedMapping, inRange, soundMapping, soundTable, nextLow, shownBy, inside, beginsIn, sticksOut, cuts, blocked, tableOf, inUse, holding, insertedAt, withoutRun, sizesBetween, Sound, Placed};
 ghost use Rattle.iommu.specs.Halving.{searchOf, middleOf, probed, searched, Open};
-ghost use Rattle.iommu.specs.Requests.{mapChecks, endOf, refusedUnmap, removingRun, Unmaps};
+ghost use Rattle.iommu.specs.Requests.{setIommuChecks, mapChecks, endOf, refusedUnmap, removingRun, Ends, Plans, Unmaps};
 use address::DeviceAddress;
 use address::MemoryAddress;
 use answer::Verdict;
 
 // The most records that may be lent.
 pub const CAPACITY: usize = 4096;
+
+// The IOMMU types of a container, which differ in what an unmap removes.
+pub const TYPE1: u32 = 1;
+
+pub const TYPE1V2: u32 = 3;
 
 // A mapping shows `size` bytes of memory from `memory` on at the device addresses from `device` on. Its rights are READ 1, WRITE 2.
 #[repr(C)]
@@ -48,6 +56,13 @@ pub struct Unmap {
     pub verdict: Verdict,
     pub from: usize,
     pub to: usize,
+}
+
+// Whether there are containers of that IOMMU type.
+pub fn is_iommu_type(kind: u32) -> bool
+    ensures { λ r. ⌜ r ≡ isIommuType kind ⌝ }
+{
+    kind == TYPE1 || kind == TYPE1V2
 }
 
 // READ, WRITE or both, and no other bit.
@@ -240,6 +255,19 @@ pub fn shown_by(m: Mapping, d: DeviceAddress) -> Translation
     Translation::Nowhere
 }
 
+// The checks of the request that sets a container's IOMMU type, with that many records in use.
+pub fn check_set_iommu(count: usize, kind: u32) -> Verdict
+    ensures { λ r. ⌜ r ≡ setIommuChecks count kind ⌝ }
+{
+    if !is_iommu_type(kind) {
+        return Verdict::Fail(answer::FLAGS, 0);
+    }
+    if count != 0 {
+        return Verdict::Fail(answer::FLAGS, 0);
+    }
+    Verdict::Pass
+}
+
 // Whether the first record that ends past a mapping's start, at place `at` of `count`, shares an address with the mapping.
 fn overlaps(m: Mapping, count: usize, at: usize, next: Mapping) -> bool
     requires { ⌜ m .device .0 + m .size ≤ deviceLimit ⌝ }
@@ -333,9 +361,63 @@ fn removing(count: usize, from: usize, to: usize) -> Unmap
     }
 }
 
-// The checks of the unmap request, and the records that go: `first` and `last` are the places found for its range's two ends, and
-// `x` and `y` the records there.
+// The place behind that of a record in use; a place with none is its own.
+fn behind(at: usize, count: usize) -> usize
+    ensures { λ r. ⌜ r ≡ pick (ltb at count) (at + 1) at ⌝ }
+{
+    if at < count {
+        return at + 1;
+    }
+    at
+}
+
+// Under Type1v2 the records inside the range go; one that lies in it in part is refused.
+fn remove_inside(
+    d: DeviceAddress,
+    n: u64,
+    count: usize,
+    first: Search,
+    x: Mapping,
+    last: Search,
+    y: Mapping,
+) -> Unmap
+    ensures { λ r. ⌜ ((ms : List Mapping) → inDeviceRange d n ≡ true → Ends ms d n count first x last y → Plans (Cuts when cuts d n ms) (inside d n) ms r) ⌝ }
+{
+    if sticks_out(x, d) {
+        return refused_unmap(answer::CUTS);
+    }
+    if sticks_out(y, end_of(d, n)) {
+        return refused_unmap(answer::CUTS);
+    }
+    removing(count, first.lo, last.lo)
+}
+
+// Under Type1 the records that begin in the range go whole, the last also where it ends past the range; none does where one begins
+// before the range and holds its start.
+fn remove_beginning(
+    d: DeviceAddress,
+    n: u64,
+    count: usize,
+    first: Search,
+    x: Mapping,
+    last: Search,
+    y: Mapping,
+) -> Unmap
+    ensures { λ r. ⌜ ((ms : List Mapping) → inDeviceRange d n ≡ true → Ends ms d n count first x last y → Plans Pass (pick (blocked d ms) (λ m. false) (beginsIn d n)) ms r) ⌝ }
+{
+    if sticks_out(x, d) {
+        return removing(count, count, count);
+    }
+    if sticks_out(y, end_of(d, n)) {
+        return removing(count, first.lo, behind(last.lo, count));
+    }
+    removing(count, first.lo, last.lo)
+}
+
+// The checks of the unmap request by the container's IOMMU type, and the records that go: `first` and `last` are the places found for its
+// range's two ends, and `x` and `y` the records there.
 pub fn check_unmap(
+    kind: u32,
     flags: u32,
     d: DeviceAddress,
     n: u64,
@@ -345,7 +427,7 @@ pub fn check_unmap(
     last: Search,
     y: Mapping,
 ) -> Unmap
-    ensures { λ r. ⌜ ((ms : List Mapping) → soundTable memoryLimit ms ≡ true → length ms ≡ count → Placed ms d (first .lo) (first .held) → x ≡ getD ms (first .lo) blank → Placed ms (endOf d n) (last .lo) (last .held) → y ≡ getD ms (last .lo) blank → Unmaps ms flags d n r) ⌝ }
+    ensures { λ r. ⌜ ((ms : List Mapping) → Ends ms d n count first x last y → Unmaps kind ms flags d n r) ⌝ }
 {
     if flags != 0 {
         return refused_unmap(answer::FLAGS);
@@ -359,13 +441,10 @@ pub fn check_unmap(
     if !address::in_device_range(d, n) {
         return refused_unmap(answer::RANGE);
     }
-    if sticks_out(x, d) {
-        return refused_unmap(answer::CUTS);
+    if kind == TYPE1 {
+        return remove_beginning(d, n, count, first, x, last, y);
     }
-    if sticks_out(y, end_of(d, n)) {
-        return refused_unmap(answer::CUTS);
-    }
-    removing(count, first.lo, last.lo)
+    remove_inside(d, n, count, first, x, last, y)
 }
 
 // Puts a mapping at a place among the records in use: those from there on move up by one.

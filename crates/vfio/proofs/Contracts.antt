@@ -4,7 +4,7 @@ use mathlib.Core.Path.{_≡_, refl}
 use mathlib.Core.Bool.{true}
 use mathlib.Core.List.{[], _∷_}
 use lib.ListN.{length}
-use mir.Syntax.{w64}
+use mir.Syntax.{w32, w64}
 use borrow.Fn.Kinds.{pNum}
 use borrow.Kind.ShrSlice.{pShrS}
 use borrow.Kind.MutSlice.{pMutS}
@@ -55,6 +55,8 @@ use Rattle.vfio.proofs.put_size.Kinds as put-size-kinds
 use Rattle.vfio.proofs.put_size.Reads as put-size-reads
 use Rattle.vfio.proofs.Map as map-type
 use Rattle.vfio.proofs.Map.Laws as map-laws
+use Rattle.vfio.proofs.IommuChange as iommu-change-type
+use Rattle.vfio.proofs.IommuChange.Laws as iommu-change-laws
 use Rattle.vfio.proofs.Range as range-type
 use Rattle.vfio.proofs.Range.Laws as range-laws
 use Rattle.iommu.proofs.Unmap as unmap-type
@@ -64,6 +66,9 @@ use Rattle.iommu.proofs.Unmap.Laws as unmap-laws
 
 abbrev pub map : Struct
 map = record { type = map-type.the-type; laws = map-laws.the-laws; copy = map-laws.the-copy; plain = map-laws.the-plain; one = refl }
+
+abbrev pub iommu-change : Struct
+iommu-change = record { type = iommu-change-type.the-type; laws = iommu-change-laws.the-laws; copy = iommu-change-laws.the-copy; plain = iommu-change-laws.the-plain; one = refl }
 
 abbrev pub range : Struct
 range = record { type = range-type.the-type; laws = range-laws.the-laws; copy = range-laws.the-copy; plain = range-laws.the-plain; one = refl }
@@ -133,10 +138,10 @@ plan-map = record {
 
 abbrev pub plan-unmap : Promise 1
 plan-unmap = record {
-  params = shared mapping 0 tt ∷ pNum w64 ∷ by-value range ∷ [];
+  params = shared mapping 0 tt ∷ pNum w64 ∷ pNum w32 ∷ by-value range ∷ [];
   result = returned unmap;
   asked = λ κs a. Sound (tableOf (a .0 .now) (a .1 .0));
-  promised = λ κs a r e. Unmaps (inUse (tableOf (a .0 .now) (a .1 .0))) (a .1 .1 .0 .flags) (a .1 .1 .0 .start) (a .1 .1 .0 .size) r;
+  promised = λ κs a r e. Unmaps (a .1 .1 .0) (inUse (tableOf (a .0 .now) (a .1 .0))) (a .1 .1 .1 .0 .flags) (a .1 .1 .1 .0 .start) (a .1 .1 .1 .0 .size) r;
 }
 
 abbrev pub map-dma : Promise 3

@@ -2,34 +2,36 @@
 use native.Mathlib.Omega.{arith}
 use Prim.Native.Nat.{ℕ, _+_, _*_, _^_, _≤_, _<_}
 use mathlib.Core.Path.{_≡_, refl, sym, _∙_, ap}
+use mathlib.Core.Bool.{true, false}
 use mathlib.Core.List.{List, [], _∷_, map}
 use lib.ListN.{length, getD, List·getD-map}
 use lib.Seq.{sets}
 use lib.Dec.{ltb}
-use borrow.Author.Tests.{lt-ltb, le-ltb, eq-eqb, ne-eqb}
+use borrow.Author.Tests.{lt-ltb, le-ltb}
 use Rattle.answer.specs.Tests.{pick}
 use Rattle.answer.specs.Codes.{Index}
-use Rattle.answer.specs.Checks.{_unless_}
+use Rattle.answer.specs.Checks.{_unless_, passes}
 use Rattle.answer.specs.Answer.{Answer, done, refused, settle}
 use Rattle.answer.specs.declared.Verdict.{Verdict}
 use Rattle.answer.specs.declared.Verdict.the-variants.{Pass, Fail}
 use Rattle.answer.proofs.Checks.{unless-true, unless-false}
 use Rattle.address.specs.declared.DeviceAddress.{DeviceAddress}
 use Rattle.wire.specs.Field.{field}
-use Rattle.iommu.specs.Table.{inside, insert, without, totalSize, tableOf, inUse, holding}
-use Rattle.iommu.specs.Requests.{mapChecks, unmapChecks}
+use Rattle.iommu.specs.Table.{isIommuType, removed, insert, without, totalSize, tableOf, inUse, holding}
+use Rattle.iommu.specs.Requests.{setIommuChecks, mapChecks, unmapChecks}
 use Rattle.iommu.specs.declared.Mapping.{Mapping}
 use Rattle.memory.specs.Memory.{Memory}
 use Rattle.registers.specs.File.{reset, slotsOf}
 use Rattle.registers.specs.declared.Register.{Register}
 use Rattle.registers.specs.declared.Registers.{Registers}
-use Rattle.emulator.specs.Machine.{Emulator, machineOf, emulatorOf, withMappings, withRegisters}
+use Rattle.emulator.specs.Machine.{Emulator, machineOf, emulatorOf, withMappings, withRegisters, withIommuType}
 use Rattle.emulator.specs.Effect.{Result, value, Piece, output, reporting, writing, effectOf, outcomeOf, filled}
-use Rattle.emulator.specs.Requests.{Request, getApiVersion, checkExtension, mapDma, unmapDma, getRegionInfo, getIrqInfo, resetDevice, Region, region, regions, regionAt, Interrupt, interrupt, interrupts, interruptAt, requestedMapping, requestedStart, requestedSize, requestedIndex, type1v2, listedChecks, listedEffect}
-use Rattle.emulator.specs.Contract.{nothing, requestWrites, withCountIn, withRegistersIn, stateWith, recordsWith, returned, leftRecords}
+use Rattle.emulator.specs.Requests.{Request, getApiVersion, checkExtension, setIommu, mapDma, unmapDma, getRegionInfo, getIrqInfo, resetDevice, Region, region, regions, regionAt, Interrupt, interrupt, interrupts, interruptAt, requestedMapping, requestedStart, requestedSize, requestedIndex, requestedType, listedChecks, listedEffect}
+use Rattle.emulator.specs.Contract.{nothing, requestWrites, withCountIn, withRegistersIn, withIommuTypeIn, stateWith, recordsWith, returned, leftRecords}
 use Rattle.emulator.specs.declared.State.{State}
 use Rattle.vfio.specs.Entries.{requestCount, entryOf}
-use Rattle.vfio.specs.Handlers.{handled, Handles, Answers, Replies, resetIndex, Plain}
+use Rattle.vfio.specs.Handlers.{handled, Handles, Answers, Replies, resetIndex, Plain, SetsIommu}
+use Rattle.vfio.specs.declared.IommuChange.{IommuChange}
 
 -- ---- any request
 
@@ -75,13 +77,13 @@ module _ (buf : List ℕ) where
   unfolding listedChecks listedEffect requestWrites filled
   api-version = reports getApiVersion buf buf 0 [] (λ e. refl) (λ e. refl) refl refl
 
-  pub extension-held : field buf 0 4 ≡ type1v2 → Answers checkExtension buf (done (value 1)) buf
+  pub extension-held : isIommuType (requestedType buf) ≡ true → Answers checkExtension buf (done (value 1)) buf
   unfolding listedChecks listedEffect requestWrites filled pick
-  extension-held h = reports checkExtension buf buf 1 [] (λ e. refl) (λ e. rw (eq-eqb _ _ h)) refl refl
+  extension-held h = reports checkExtension buf buf 1 [] (λ e. refl) (λ e. rw h) refl refl
 
-  pub extension-not : (field buf 0 4 ≡ type1v2 → ⊥) → Answers checkExtension buf (done (value 0)) buf
+  pub extension-not : isIommuType (requestedType buf) ≡ false → Answers checkExtension buf (done (value 0)) buf
   unfolding listedChecks listedEffect requestWrites filled pick
-  extension-not h = reports checkExtension buf buf 0 [] (λ e. refl) (λ e. rw (ne-eqb _ _ h)) refl refl
+  extension-not h = reports checkExtension buf buf 0 [] (λ e. refl) (λ e. rw h) refl refl
 
 -- the index of 108 and 109, read as `i`, is judged against the `n` that there are; then the fields `ps` of that index are written
 module _ (q : Request) (buf : List ℕ) (n : ℕ) (judged : (e : Emulator) → listedChecks q buf e ≡ (Index unless ltb (field buf 8 4) n)) (i : ℕ) (is : i ≡ field buf 8 4) where
@@ -120,7 +122,17 @@ module _ (buf buf′ : List ℕ) (i : ℕ) (is : i ≡ field buf 8 4) where
       (λ e. rw (List·getD-map (λ (r : Interrupt). r .flags) interrupts (field buf 8 4) (interrupt 0 0), List·getD-map (λ (r : Interrupt). r .count) interrupts (field buf 8 4) (interrupt 0 0)))
       refl
 
--- ---- requests that change the table
+-- ---- requests that change the table, or its IOMMU type
+
+-- what the code keeps where the checks of a change pass, and where they do not
+module _ (count kind : ℕ) (buf : List ℕ) {asked : ℕ} {v : Verdict} (is : asked ≡ requestedType buf) (judged : v ≡ setIommuChecks count asked) where
+  pub type-changed : v ≡ Pass → SetsIommu count kind buf (record { verdict = v; kind = asked })
+  unfolding pick passes
+  type-changed e = record { checks = rw (← is) judged; kept = rw (e, is) }
+
+  pub type-kept : {code place : ℕ} → v ≡ Fail code place → SetsIommu count kind buf (record { verdict = Fail code place; kind = kind })
+  unfolding pick passes
+  type-kept e = record { checks = sym e ∙ rw (← is) judged; kept = refl }
 
 module _ (buf : List ℕ) (s : State) (rs : List Mapping) where
   module _ (mapping : Mapping) (is : mapping ≡ requestedMapping buf) (v : Verdict) (judged : v ≡ mapChecks (s .«memory_length») (length rs) (inUse (tableOf rs (s .count))) mapping) where
@@ -137,9 +149,25 @@ module _ (buf : List ℕ) (s : State) (rs : List Mapping) where
     map-done n rs′ e f g = λ m noted.
         handled-done mapDma buf s rs m buf _ rs′ (map-verdict m noted ∙ e) refl (rw (← is) (ap (λ (k : ℕ). withCountIn k s) f)) (rw (← is) g)
 
+  -- the type that was asked for is kept where the checks pass
+  pub set-iommu : (c : IommuChange) → SetsIommu (s .count) (s .«iommu_type») buf c → (k : ℕ) → k ≡ c .kind → Replies setIommu buf s rs (settle (c .verdict) (value 0)) buf (withIommuTypeIn k s) rs
+  unfolding settle listedChecks listedEffect emulatorOf machineOf withIommuType requestWrites stateWith recordsWith filled
+  set-iommu c sets k is = λ m noted. by m (c .verdict) refl
+    where
+      kept : (v : Verdict) → c .verdict ≡ v → k ≡ pick (passes v) (requestedType buf) (s .«iommu_type»)
+      kept v e = is ∙ sets .kept ∙ rw e
+
+      by : (m : Memory) (v : Verdict) → c .verdict ≡ v → Handles setIommu buf s rs m (settle v (value 0)) buf (withIommuTypeIn k s) rs
+      by m Pass e =
+          let now : k ≡ requestedType buf = unfold pick passes in kept Pass e in
+          handled-done setIommu buf s rs m buf (withIommuTypeIn k s) rs (sym (sets .checks) ∙ e) refl (ap (λ (x : ℕ). withIommuTypeIn x s) now) refl
+      by m (Fail code place) e =
+          let now : k ≡ s .«iommu_type» = unfold pick passes in kept (Fail code place) e in
+          rw now (handled-refused setIommu buf s rs m code place (sym (sets .checks) ∙ e))
+
   -- the flags, the start and the size that were read
   module _ (flags : ℕ) (d : DeviceAddress) (n : ℕ) (flags-is : flags ≡ field buf 4 4) (start-is : d ≡ requestedStart buf) (size-is : n ≡ requestedSize buf)
-      (v : Verdict) (judged : v ≡ unmapChecks (inUse (tableOf rs (s .count))) flags d n) where
+      (v : Verdict) (judged : v ≡ unmapChecks (s .«iommu_type») (inUse (tableOf rs (s .count))) flags d n) where
     unmap-verdict : (m : Memory) → listedChecks unmapDma buf (emulatorOf s rs m) ≡ v
     unfolding listedChecks emulatorOf machineOf
     unmap-verdict m = rw (← flags-is, ← start-is, ← size-is) (sym judged)
@@ -147,8 +175,8 @@ module _ (buf : List ℕ) (s : State) (rs : List Mapping) where
     pub unmap-refused : (code place : ℕ) → v ≡ Fail code place → Replies unmapDma buf s rs (refused code place) buf s rs
     unmap-refused code place e = λ m noted. handled-refused unmapDma buf s rs m code place (unmap-verdict m ∙ e)
 
-    pub unmap-done : (buf′ : List ℕ) (k : ℕ) (rs′ : List Mapping) (sum : ℕ) → v ≡ Pass → k ≡ length (without (inside d n) (inUse (tableOf rs (s .count))))
-        → rs′ ≡ holding (without (inside d n) (inUse (tableOf rs (s .count)))) rs → sum ≡ totalSize (inside d n) (inUse (tableOf rs (s .count))) → buf′ ≡ filled (output 16 8 sum ∷ []) buf
+    pub unmap-done : (buf′ : List ℕ) (k : ℕ) (rs′ : List Mapping) (sum : ℕ) → v ≡ Pass → k ≡ length (without (removed (s .«iommu_type») (inUse (tableOf rs (s .count))) d n) (inUse (tableOf rs (s .count))))
+        → rs′ ≡ holding (without (removed (s .«iommu_type») (inUse (tableOf rs (s .count))) d n) (inUse (tableOf rs (s .count)))) rs → sum ≡ totalSize (removed (s .«iommu_type») (inUse (tableOf rs (s .count))) d n) (inUse (tableOf rs (s .count))) → buf′ ≡ filled (output 16 8 sum ∷ []) buf
         → Replies unmapDma buf s rs (done (value 0)) buf′ (withCountIn k s) rs′
     unfolding listedEffect emulatorOf machineOf withMappings requestWrites stateWith recordsWith
     unmap-done buf′ k rs′ sum e f g h b = λ m noted.
@@ -168,21 +196,22 @@ pub answers-at : (i k : ℕ) {buf : List ℕ} {r : Answer Result} {buf′ : List
 answers-at i k is h = rw is h
 
 pub plain-at : (i k : ℕ) {buf : List ℕ} {r : Answer Result} {buf′ : List ℕ} → i ≡ k → (k ≡ resetIndex → ⊥) → Answers (entryOf k .request) buf r buf′ → Plain i buf r buf′
-plain-at i k is not h = record { other = λ _ _ _. answers-at i k is h; reset = λ e. absurd (not (sym is ∙ e)) }
+plain-at i k is not h = record { other = λ _ _ _ _. answers-at i k is h; reset = λ e. absurd (not (sym is ∙ e)) }
 
 above : (i k : ℕ) → k ≤ i → (i ≡ k → ⊥) → k + 1 ≤ i
 above i k le other = omega arith
 
--- an index of the table that is none of those answered before: a map, an unmap or a reset
+-- an index of the table that is none of those answered before: a change of the IOMMU type, a map, an unmap or a reset
 pub plain-rest : (i : ℕ) (buf : List ℕ) → i < requestCount
-    → ((((((Unit {0} × (i ≡ 0 → ⊥)) × (i ≡ 1 → ⊥)) × (i ≡ 2 → ⊥)) × (i ≡ 5 → ⊥)) × (i ≡ 6 → ⊥)) × (i ≡ 7 → ⊥))
+    → ((((((Unit {0} × (i ≡ 0 → ⊥)) × (i ≡ 1 → ⊥)) × (i ≡ 3 → ⊥)) × (i ≡ 6 → ⊥)) × (i ≡ 7 → ⊥)) × (i ≡ 8 → ⊥))
     → Plain i buf (done (value 0)) buf
 plain-rest i buf lt h =
-    let three = above i 2 (above i 1 (above i 0 (omega arith) (h .0 .0 .0 .0 .0 .1)) (h .0 .0 .0 .0 .1)) (h .0 .0 .0 .1) in
+    let two = above i 1 (above i 0 (omega arith) (h .0 .0 .0 .0 .0 .1)) (h .0 .0 .0 .0 .1) in
     record {
-      other = λ n3 n4 n8.
-          let nine = above i 8 (above i 7 (above i 6 (above i 5 (above i 4 (above i 3 three n3) n4) (h .0 .0 .1)) (h .0 .1)) (h .1)) n8 in
-          absurd (omega (arith, nine, lt));
+      other = λ n2 n4 n5 n9.
+          let six = above i 5 (above i 4 (above i 3 (above i 2 two n2) (h .0 .0 .0 .1)) n4) n5 in
+          let ten = above i 9 (above i 8 (above i 7 (above i 6 six (h .0 .0 .1)) (h .0 .1)) (h .1)) n9 in
+          absurd (omega (arith, ten, lt));
       reset = λ e. (refl, refl);
     }
 

@@ -14,8 +14,8 @@ use Rattle.answer.proofs.Checks.{passes-is, passes-not}
 use Rattle.address.specs.Address.{memoryLimit}
 use Rattle.address.specs.declared.DeviceAddress.{DeviceAddress}
 use Rattle.wire.specs.Field.{field}
-use Rattle.iommu.specs.Table.{blank, inside, insert, insertedAt, without, withoutRun, sizesBetween, soundTable, tableOf, inUse, holding, Sound, Placed}
-use Rattle.iommu.specs.Requests.{mapChecks, endOf, Removes, Unmaps}
+use Rattle.iommu.specs.Table.{blank, removed, insert, insertedAt, without, withoutRun, sizesBetween, soundTable, tableOf, inUse, holding, Sound, Placed}
+use Rattle.iommu.specs.Requests.{mapChecks, endOf, Ends, Removes, Unmaps}
 use Rattle.iommu.specs.declared.Mapping.{Mapping}
 use Rattle.iommu.specs.declared.Search.{Search}
 use Rattle.iommu.specs.declared.Unmap.{Unmap}
@@ -57,16 +57,21 @@ module _ (rs : List Mapping) (count size : ℕ) (m : Mapping) (t : Sound (tableO
 -- ---- the plan of an unmap
 
 -- the places that were found for both ends of its range, and the records there
-pub unmap-planned : (rs : List Mapping) (count : ℕ) (range : Range) → Sound (tableOf rs count)
+pub unmap-planned : (rs : List Mapping) (count kind : ℕ) (range : Range) → Sound (tableOf rs count)
     → (d : DeviceAddress) → d ≡ range .start → (first : Search) → Placed (inUse (tableOf rs count)) d (first .lo) (first .held) → (i : ℕ) → i ≡ first .lo → (x : Mapping) → x ≡ getD (inUse (tableOf rs count)) i blank
     → (e : DeviceAddress) → e ≡ endOf (range .start) (range .size) → (last : Search) → Placed (inUse (tableOf rs count)) e (last .lo) (last .held) → (j : ℕ) → j ≡ last .lo → (y : Mapping) → y ≡ getD (inUse (tableOf rs count)) j blank
-    → (u : Unmap)
-    → ((ms : List Mapping) → soundTable memoryLimit ms ≡ true → length ms ≡ count → Placed ms (range .start) (first .lo) (first .held) → x ≡ getD ms (first .lo) blank
-    → Placed ms (endOf (range .start) (range .size)) (last .lo) (last .held) → y ≡ getD ms (last .lo) blank → Unmaps ms (range .flags) (range .start) (range .size) u)
-    → Unmaps (inUse (tableOf rs count)) (range .flags) (range .start) (range .size) u
-unmap-planned rs count range t d of first placed i at x is e from last placed′ j at′ y is′ u judged =
+    → (u : Unmap) → ((ms : List Mapping) → Ends ms (range .start) (range .size) count first x last y → Unmaps kind ms (range .flags) (range .start) (range .size) u)
+    → Unmaps kind (inUse (tableOf rs count)) (range .flags) (range .start) (range .size) u
+unmap-planned rs count kind range t d of first placed i at x is e from last placed′ j at′ y is′ u judged =
     let ms : List Mapping = inUse (tableOf rs count) in
-    judged ms (t .table) (in-use-length (tableOf rs count) (t .fits)) (rw of at placed) (is ∙ ap (λ (k : ℕ). getD ms k blank) at) (rw from at placed′) (is′ ∙ ap (λ (k : ℕ). getD ms k blank) at′)
+    judged ms (record {
+      sound = t .table;
+      long = in-use-length (tableOf rs count) (t .fits);
+      start = rw of at placed;
+      at-start = is ∙ ap (λ (k : ℕ). getD ms k blank) at;
+      past = rw from at placed′;
+      at-past = is′ ∙ ap (λ (k : ℕ). getD ms k blank) at′;
+    })
 
 -- ---- a map on a sound state
 
@@ -111,12 +116,12 @@ module _ (s : State) (rs : List Mapping) (good : sound (length rs) (machineOf s 
   -- ---- an unmap on a sound state
 
   module _ (buf : List ℕ) (range : Range) (asked : (range .flags ≡ field buf 4 4) × (range .start ≡ requestedStart buf) × (range .size ≡ requestedSize buf)) (u : Unmap)
-      (unmaps : Unmaps (inUse (tableOf rs (s .count))) (range .flags) (range .start) (range .size) u) {go : Bool} (goes : go ≡ passes (u .verdict)) where
+      (unmaps : Unmaps (s .«iommu_type») (inUse (tableOf rs (s .count))) (range .flags) (range .start) (range .size) u) {go : Bool} (goes : go ≡ passes (u .verdict)) where
     module _ (goes-on : go ≡ true) where
       removing : u .verdict ≡ Pass
       removing = passes-is _ (sym goes ∙ goes-on)
 
-      its-run : Removes (inUse (tableOf rs (s .count))) (range .start) (range .size) (u .from) (u .to)
+      its-run : Removes (removed (s .«iommu_type») (inUse (tableOf rs (s .count))) (range .start) (range .size)) (inUse (tableOf rs (s .count))) (u .from) (u .to)
       its-run = unmaps .range removing
 
       pub unmap-run : (u .from ≤ u .to) × (u .to ≤ s .count)
@@ -140,8 +145,9 @@ module _ (s : State) (rs : List Mapping) (good : sound (length rs) (machineOf s 
           let list : List Mapping = inUse (tableOf rs (s .count)) in
           let long : length list ≡ s .count = in-use-length (tableOf rs (s .count)) (held .fits) in
           let r = its-run in
-          let rest : without (inside (range .start) (range .size)) list ≡ withoutRun (u .from) (u .to) list = r .rest in
-          let count : length (without (inside (range .start) (range .size)) list) ≡ s .count - (u .to - u .from) =
+          let goes : Mapping → Bool = removed (s .«iommu_type») list (range .start) (range .size) in
+          let rest : without goes list ≡ withoutRun (u .from) (u .to) list = r .rest in
+          let count : length (without goes list) ≡ s .count - (u .to - u .from) =
           ap length rest ∙ rw (length-append, length-drop, length-take-le (u .from) list (omega (arith, r .order, r .end))) (omega (arith, r .order, r .end, long)) in
           rw removing (unmap-done buf s rs (range .flags) (range .start) (range .size) (asked .0) (asked .1) (asked .2) (u .verdict) (unmaps .checks) buf′ n rs′ sum removing
           (fewer ∙ sym count) (rw (f′, t′) at left ∙ ap (λ (l : List Mapping). holding l rs) (sym rest)) (rw (f, t) at summed ∙ sym (r .size)) put)

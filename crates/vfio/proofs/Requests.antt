@@ -14,7 +14,7 @@ use Rattle.iommu.specs.declared.Mapping.{Mapping}
 use Rattle.memory.specs.Memory.{Memory, edited}
 use Rattle.emulator.specs.Machine.{Emulator, both, usable, emulatorOf}
 use Rattle.emulator.specs.Effect.{Result, effectOf, outcomeOf}
-use Rattle.emulator.specs.Requests.{Request, getApiVersion, checkExtension, getIommuInfo, mapDma, unmapDma, getInfo, getRegionInfo, getIrqInfo, resetDevice, Entry, identify, listedChecks, requestChecks, listedEffect, requestEffect, sizeChecks}
+use Rattle.emulator.specs.Requests.{Request, getApiVersion, checkExtension, setIommu, getIommuInfo, mapDma, unmapDma, getInfo, getRegionInfo, getIrqInfo, resetDevice, Entry, identify, listedChecks, requestChecks, listedEffect, requestEffect, sizeChecks}
 use Rattle.emulator.specs.Calls.{request, given, ownChecks, checks, effect, probesOf, outcome}
 use Rattle.emulator.specs.Contract.{entryWrites, requestWrites, writes, Meets}
 use Rattle.emulator.specs.declared.State.{State}
@@ -41,6 +41,7 @@ no-edits : (q : Request) (buf : List ℕ) (e : Emulator) → listedEffect q buf 
 unfolding listedEffect
 no-edits getApiVersion buf e = refl
 no-edits checkExtension buf e = refl
+no-edits setIommu buf e = refl
 no-edits getIommuInfo buf e = refl
 no-edits mapDma buf e = refl
 no-edits unmapDma buf e = refl

@@ -9,7 +9,7 @@ use Rattle.answer.specs.Tests.{pick}
 use Rattle.emulator.specs.Requests.{getApiVersion, Entry, entry, requests}
 
 abbrev pub requestCount : ℕ
-requestCount = 9
+requestCount = 10
 
 -- what is read past the end of the table
 abbrev pub noEntry : Entry

@@ -5,21 +5,23 @@ use mathlib.Core.Path.{_≡_}
 use mathlib.Core.Bool.{Bool, true}
 use mathlib.Core.List.{List}
 use lib.ListN.{length}
+use Rattle.answer.specs.Tests.{pick}
 use Rattle.answer.specs.Codes.{BadBench}
-use Rattle.answer.specs.Checks.{_then_, _unless_}
+use Rattle.answer.specs.Checks.{_then_, _unless_, passes}
 use Rattle.answer.specs.Answer.{Answer, done, refused}
 use Rattle.answer.specs.declared.Verdict.the-variants.{Pass, Fail}
 use Rattle.iommu.specs.Table.{insert, insertedAt}
-use Rattle.iommu.specs.Requests.{mapChecks}
+use Rattle.iommu.specs.Requests.{setIommuChecks, mapChecks}
 use Rattle.iommu.specs.declared.Mapping.{Mapping}
 use Rattle.memory.specs.Memory.{Memory}
 use Rattle.emulator.specs.Machine.{emulatorOf}
 use Rattle.emulator.specs.Effect.{Result, value, Outcome, outcomeOf, filled}
-use Rattle.emulator.specs.Requests.{Request, identify, sizeChecks, listedChecks, listedEffect}
+use Rattle.emulator.specs.Requests.{Request, requestedType, identify, sizeChecks, listedChecks, listedEffect}
 use Rattle.emulator.specs.Contract.{requestWrites, returned, leftRecords}
 use Rattle.emulator.specs.declared.State.{State}
 use Rattle.vfio.specs.Entries.{entryOf, entryAt}
 use Rattle.vfio.specs.declared.Admission.{Admission}
+use Rattle.vfio.specs.declared.IommuChange.{IommuChange}
 use Rattle.vfio.specs.declared.Map.{Map}
 
 -- the outcome of a request whose checks 1 to 4 have passed
@@ -46,24 +48,32 @@ pub record Admits (ok : Bool) (target number : ℕ) (buf : List ℕ) (a : Admiss
   pub entry : ok ≡ true → identify target number ≡ entryAt (a .index)
 
 -- the indices of the requests that change the state
+abbrev pub setIommuIndex : ℕ
+setIommuIndex = 2
+
 abbrev pub mapIndex : ℕ
-mapIndex = 3
+mapIndex = 4
 
 abbrev pub unmapIndex : ℕ
-unmapIndex = 4
+unmapIndex = 5
 
 abbrev pub resetIndex : ℕ
-resetIndex = 8
+resetIndex = 9
 
--- what an admitted request answers, and leaves in its buffer, that changes no table; a reset has no result
+-- what an admitted request answers, and leaves in its buffer, that changes neither table nor IOMMU type; a reset has no result
 pub record Plain (index : ℕ) (buf : List ℕ) (r : Answer Result) (buf′ : List ℕ) : Type 0 where
-  pub other : (index ≡ mapIndex → ⊥) → (index ≡ unmapIndex → ⊥) → (index ≡ resetIndex → ⊥) → Answers (entryOf index .request) buf r buf′
+  pub other : (index ≡ setIommuIndex → ⊥) → (index ≡ mapIndex → ⊥) → (index ≡ unmapIndex → ⊥) → (index ≡ resetIndex → ⊥) → Answers (entryOf index .request) buf r buf′
   pub reset : index ≡ resetIndex → (r ≡ done (value 0)) × (buf′ ≡ buf)
 
 -- the same of one that may have been refused
 pub record Answered (a : Admission) (buf : List ℕ) (r : Answer Result) (buf′ : List ℕ) : Type 0 where
   pub not : (code place : ℕ) → a .verdict ≡ Fail code place → (r ≡ refused code place) × (buf′ ≡ buf)
   pub plain : a .verdict ≡ Pass → Plain (a .index) buf r buf′
+
+-- the checks of a change of the IOMMU type, and the type to keep: the one that was asked for where they pass
+pub record SetsIommu (count kind : ℕ) (buf : List ℕ) (r : IommuChange) : Type 0 where
+  pub checks : r .verdict ≡ setIommuChecks count (requestedType buf)
+  pub kept : r .kind ≡ pick (passes (r .verdict)) (requestedType buf) kind
 
 -- the checks of a map, and the place of the new mapping where they pass
 pub record Maps (size room : ℕ) (ms : List Mapping) (m : Mapping) (r : Map) : Type 0 where

@@ -20,19 +20,25 @@ ghost use Rattle.answer.specs.declared.Verdict.the-variants.{Pass};
 ghost use Rattle.address.specs.Address.{memoryLimit};
 ghost use Rattle.wire.specs.Field.{field};
 ghost use Rattle.iommu.specs.Table.{Sound, Placed, blank, soundTable, tableOf, inUse};
-ghost use Rattle.iommu.specs.Requests.{mapChecks, endOf, Unmaps};
+ghost use Rattle.iommu.specs.Requests.{mapChecks, endOf, Ends, Unmaps};
 ghost use Rattle.iommu.specs.declared.Mapping.{Mapping as MappingRecord};
 ghost use Rattle.emulator.specs.Machine.{machineOf, sound as soundMachine};
 ghost use Rattle.emulator.specs.Effect.{value, output, filled};
 ghost use Rattle.emulator.specs.Requests.{checkExtension, getIommuInfo, mapDma, unmapDma, getInfo, getRegionInfo, getIrqInfo, requestedMapping, requestedStart, requestedSize, argszChecks, identify as identified, sizeChecks};
 ghost use Rattle.emulator.specs.Contract.{told};
 ghost use Rattle.vfio.specs.Entries.{requestCount, entryAt};
-ghost use Rattle.vfio.specs.Handlers.{Answers, Replies, Admits, mapIndex, unmapIndex, resetIndex, Plain, Answered, Maps};
+ghost use Rattle.vfio.specs.Handlers.{Answers, Replies, Admits, setIommuIndex, mapIndex, unmapIndex, resetIndex, Plain, Answered, SetsIommu, Maps};
 
 // What checks 1 to 4 of a request come to, and the index of the request in the table.
 pub struct Admission {
     pub verdict: Verdict,
     pub index: usize,
+}
+
+// What a change of the container's IOMMU type comes to: its checks, and the type that the container is of then.
+pub struct IommuChange {
+    pub verdict: Verdict,
+    pub kind: u32,
 }
 
 // What a map comes to: its checks, and the place of the new record.
@@ -54,28 +60,31 @@ const CONTAINER: u32 = 0;
 
 const DEVICE: u32 = 1;
 
-const REQUESTS: usize = 9;
+const REQUESTS: usize = 10;
 
 // The index of each request in the columns below.
 const GET_API_VERSION: usize = 0;
 
 const CHECK_EXTENSION: usize = 1;
 
-const GET_IOMMU_INFO: usize = 2;
+const SET_IOMMU: usize = 2;
 
-const MAP_DMA: usize = 3;
+const GET_IOMMU_INFO: usize = 3;
 
-const UNMAP_DMA: usize = 4;
+const MAP_DMA: usize = 4;
 
-const GET_INFO: usize = 5;
+const UNMAP_DMA: usize = 5;
 
-const GET_REGION_INFO: usize = 6;
+const GET_INFO: usize = 6;
 
-const GET_IRQ_INFO: usize = 7;
+const GET_REGION_INFO: usize = 7;
 
-const RESET_DEVICE: usize = 8;
+const GET_IRQ_INFO: usize = 8;
 
-const TARGETS: [u32; 9] = [
+const RESET_DEVICE: usize = 9;
+
+const TARGETS: [u32; 10] = [
+    CONTAINER,
     CONTAINER,
     CONTAINER,
     CONTAINER,
@@ -87,11 +96,22 @@ const TARGETS: [u32; 9] = [
     DEVICE,
 ];
 
-const NUMBERS: [u32; 9] = [100, 101, 112, 113, 114, 107, 108, 109, 111];
+const NUMBERS: [u32; 10] = [100, 101, 102, 112, 113, 114, 107, 108, 109, 111];
 
-const SIZES: [usize; 9] = [0, 4, 16, 32, 24, 16, 32, 16, 0];
+const SIZES: [usize; 10] = [0, 4, 4, 16, 32, 24, 16, 32, 16, 0];
 
-const ARGSZ_FIRST: [bool; 9] = [false, false, true, true, true, true, true, true, false];
+const ARGSZ_FIRST: [bool; 10] = [
+    false,
+    false,
+    false,
+    true,
+    true,
+    true,
+    true,
+    true,
+    true,
+    false,
+];
 
 // The index of a target's request by its number, or `REQUESTS`.
 fn identify(target: u32, number: u32) -> usize
@@ -145,8 +165,6 @@ fn check_size(index: usize, buf: &[u8]) -> Verdict
 
 const API_VERSION: u64 = 0;
 
-const TYPE1V2: u32 = 3;
-
 // The flag that says that page sizes are given, and these: a bitmap, in which a page of 4,096 bytes is that bit.
 const PAGE_SIZES_GIVEN: u32 = 1;
 
@@ -156,10 +174,32 @@ fn check_extension(buf: &[u8]) -> Answer
     requires { ⌜ 4 ≤ length (now buf) ⌝ }
     ensures { λ r. ⌜ Answers checkExtension (now (buf .entry)) (told r) (now (buf .entry)) ⌝ }
 {
-    if wire::get_u32(buf, 0) == TYPE1V2 {
+    if iommu::is_iommu_type(wire::get_u32(buf, 0)) {
         return Answer::Done(1);
     }
     Answer::Done(0)
+}
+
+// The checks of a change of the IOMMU type of a container that has `count` records in use and is of type `kind`, and the type to keep.
+pub fn plan_iommu(count: usize, kind: u32, buf: &[u8]) -> IommuChange
+    requires { ⌜ 4 ≤ length (now buf) ⌝ }
+    ensures { λ r. ⌜ SetsIommu count kind (now (buf .entry)) r ⌝ }
+{
+    let asked = wire::get_u32(buf, 0);
+    let verdict = iommu::check_set_iommu(count, asked);
+    match verdict {
+        Verdict::Pass => IommuChange {
+            verdict,
+            kind: asked,
+        },
+        Verdict::Fail(code, place) => IommuChange { verdict, kind },
+    }
+}
+
+pub fn kept_type(c: IommuChange) -> u32
+    ensures { λ r. ⌜ r ≡ c .kind ⌝ }
+{
+    c.kind
 }
 
 fn get_iommu_info(buf: &mut [u8]) -> Answer
@@ -289,6 +329,7 @@ fn past(r: Range) -> DeviceAddress
 }
 
 fn planned_unmap(
+    kind: u32,
     r: Range,
     count: usize,
     first: Search,
@@ -296,21 +337,21 @@ fn planned_unmap(
     last: Search,
     y: Mapping,
 ) -> Unmap
-    ensures { λ u. ⌜ ((ms : List MappingRecord) → soundTable memoryLimit ms ≡ true → length ms ≡ count → Placed ms (r .start) (first .lo) (first .held) → x ≡ getD ms (first .lo) blank → Placed ms (endOf (r .start) (r .size)) (last .lo) (last .held) → y ≡ getD ms (last .lo) blank → Unmaps ms (r .flags) (r .start) (r .size) u) ⌝ }
+    ensures { λ u. ⌜ ((ms : List MappingRecord) → Ends ms (r .start) (r .size) count first x last y → Unmaps kind ms (r .flags) (r .start) (r .size) u) ⌝ }
 {
-    iommu::check_unmap(r.flags, r.start, r.size, count, first, x, last, y)
+    iommu::check_unmap(kind, r.flags, r.start, r.size, count, first, x, last, y)
 }
 
-// The checks of an unmap, and the records that it removes.
-fn plan_unmap(records: &[Mapping], count: usize, range: Range) -> Unmap
+// The checks of an unmap in a container of IOMMU type `kind`, and the records that it removes.
+fn plan_unmap(records: &[Mapping], count: usize, kind: u32, range: Range) -> Unmap
     requires { ⌜ Sound (tableOf (now records) count) ⌝ }
-    ensures { λ r. ⌜ Unmaps (inUse (tableOf (now (records .entry)) count)) (range .flags) (range .start) (range .size) r ⌝ }
+    ensures { λ r. ⌜ Unmaps kind (inUse (tableOf (now (records .entry)) count)) (range .flags) (range .start) (range .size) r ⌝ }
 {
     let first = iommu::find(records, count, start_of(range));
     let x = iommu::get(records, count, place_of(first));
     let last = iommu::find(records, count, past(range));
     let y = iommu::get(records, count, place_of(last));
-    planned_unmap(range, count, first, x, last, y)
+    planned_unmap(kind, range, count, first, x, last, y)
 }
 
 fn removes(u: Unmap) -> bool
@@ -357,7 +398,8 @@ pub fn unmap_dma(state: &mut State, records: &mut [Mapping], buf: &mut [u8]) -> 
 {
     let range = requested_range(buf);
     let count = state.count;
-    let plan = plan_unmap(records, count, range);
+    let kind = state.iommu_type;
+    let plan = plan_unmap(records, count, kind, range);
     if removes(plan) {
         let size = iommu::sizes(records, count, from_of(plan), to_of(plan));
         iommu::close(records, count, from_of(plan), to_of(plan));
@@ -453,6 +495,12 @@ fn admitted_as(a: Admission, index: usize) -> bool
         Verdict::Pass => a.index == index,
         Verdict::Fail(code, place) => false,
     }
+}
+
+pub fn sets_iommu(a: Admission) -> bool
+    ensures { λ r. ⌜ r ≡ (passes (a .verdict) and eqb (a .index) setIommuIndex) ⌝ }
+{
+    admitted_as(a, SET_IOMMU)
 }
 
 pub fn maps(a: Admission) -> bool

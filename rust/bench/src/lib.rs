@@ -88,8 +88,11 @@ fn contenders(measure: &mut Measure, rivals: &[Rival]) -> Vec<Contender> {
 #[cfg(test)]
 mod tests {
     use super::*;
+    use crate::world::{unmap_request, PAGE};
     use glintbasket::raw::{Mapping, State};
-    use glintbasket::{Bench, DeviceAddress, DEVICE_LIMIT};
+    use glintbasket::{
+        Bench, DeviceAddress, IommuType, MemoryAddress, OwnedBench, Rights, Target, DEVICE_LIMIT,
+    };
 
     /// What a call answers and leaves, stale records too.
     #[derive(PartialEq)]
@@ -129,6 +132,52 @@ mod tests {
             let plain = left(&measure, measure.call.plain);
             let (name, held) = (measure.call.name, measure.world.held);
             assert!(emulator == plain, "{name} {held}");
+        }
+    }
+
+    /// Pages 0 and 1, page 2, and pages 4 and 5, each a mapping, in a container of a type.
+    fn three_mappings(iommu_type: IommuType) -> OwnedBench {
+        let mut bench = OwnedBench::with_memory(vec![0; 2 * PAGE]).unwrap();
+        bench.set_iommu(iommu_type).unwrap();
+        for (page, pages) in [(0, 2), (2, 1), (4, 2)] {
+            let (device, size) = (DeviceAddress(page * PAGE as u64), pages * PAGE as u64);
+            bench
+                .map(MemoryAddress(0), device, size, Rights::READ)
+                .unwrap();
+        }
+        bench
+    }
+
+    /// Every range of pages, of which only some are accepted.
+    #[test]
+    fn the_plain_unmap_removes_what_the_emulator_removes() {
+        let ranges = (0..7).flat_map(|first| (first + 1..8).map(move |end| (first, end)));
+        for (first, end) in ranges {
+            for iommu_type in [IommuType::Type1, IommuType::Type1v2] {
+                let mut bench = three_mappings(iommu_type);
+                let (mut state, mut records) = (*bench.state(), bench.records().to_vec());
+                let given = unmap_request((first * PAGE) as u64, (end - first) * PAGE);
+                let (mut buffer, mut plain_buffer) = (given, given);
+                let emulator = bench.request(Target::CONTAINER, 114, &mut buffer);
+                let (memory, marks) = (bench.memory(), bench.marks());
+                let plain = plain::request(
+                    &mut state,
+                    &mut records,
+                    memory,
+                    marks,
+                    0,
+                    114,
+                    &mut plain_buffer,
+                );
+                let unmap = format!("{iommu_type}: pages {first} to {end}");
+                assert_eq!(
+                    plain.map_err(|refused| refused.code),
+                    emulator.map_err(|error| error.refusal.number()),
+                    "{unmap}"
+                );
+                assert_eq!(plain_buffer, buffer, "{unmap}");
+                assert_eq!((state, &records[..]), (*bench.state(), bench.records()));
+            }
         }
     }
 

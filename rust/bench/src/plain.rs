@@ -4,8 +4,8 @@
 
 use glintbasket::raw::{REGISTERS, SLOTS};
 use glintbasket::{
-    DeviceAddress, Location, LookUpError, Mapping, MemoryAddress, Register, Registers, Rights,
-    State, DEVICE_LIMIT, MEMORY_LIMIT, PAGE_SIZE, RECORDS_LIMIT, TRANSFER_LIMIT,
+    DeviceAddress, IommuType, Location, LookUpError, Mapping, MemoryAddress, Register, Registers,
+    Rights, State, DEVICE_LIMIT, MEMORY_LIMIT, PAGE_SIZE, RECORDS_LIMIT, TRANSFER_LIMIT,
 };
 
 #[derive(Clone, Copy, Debug, PartialEq, Eq)]
@@ -28,6 +28,7 @@ fn refuse<T>(code: u32) -> Answer<T> {
 
 fn sound(state: &State, records: &[Mapping]) -> bool {
     state.card().is_some()
+        && IommuType::from_number(state.iommu_type).is_some()
         && state.memory_length <= MEMORY_LIMIT as u64
         && sound_registers(state)
         && sound_table(state, records)
@@ -438,13 +439,18 @@ fn unmap(state: &mut State, records: &mut [Mapping], buffer: &mut [u8]) -> Answe
     let end = device + size;
     let first = held.partition_point(|m| end_of(m) <= device);
     let past = held.partition_point(|m| m.device.0 < end);
-    let inside = &held[first..past];
-    if let (Some(low), Some(high)) = (inside.first(), inside.last()) {
-        if low.device.0 < device || end_of(high) > end {
-            return refuse(12);
+    let met = &held[first..past];
+    let cut_below = met.first().is_some_and(|m| m.device.0 < device);
+    let cut_above = met.last().is_some_and(|m| end_of(m) > end);
+    if state.iommu_type == IommuType::Type1.number() {
+        if cut_below {
+            buffer[16..24].fill(0);
+            return Ok(0);
         }
+    } else if cut_below || cut_above {
+        return refuse(12);
     }
-    let removed: u64 = inside.iter().map(|m| m.size).sum();
+    let removed: u64 = met.iter().map(|m| m.size).sum();
     records.copy_within(past..state.count, first);
     state.count -= past - first;
     buffer[16..24].copy_from_slice(&removed.to_le_bytes());

@@ -172,7 +172,7 @@ fn map_request(device: u64) -> [u8; 32] {
     buffer
 }
 
-fn unmap_request(device: u64, size: usize) -> [u8; 24] {
+pub fn unmap_request(device: u64, size: usize) -> [u8; 24] {
     let mut buffer = [0; 24];
     buffer[..4].copy_from_slice(&24u32.to_le_bytes());
     buffer[8..16].copy_from_slice(&device.to_le_bytes());

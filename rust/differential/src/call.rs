@@ -145,7 +145,7 @@ impl Call {
     pub fn is_stale(&self, offset: usize) -> bool {
         let input = match *self {
             Call::Request { target, number } => match (target, number) {
-                (0, 101) | (0, 112) | (1, 107) => offset < 4,
+                (0, 101) | (0, 102) | (0, 112) | (1, 107) => offset < 4,
                 (0, 113) => offset < 32,
                 (0, 114) => offset < 24,
                 (1, 108) | (1, 109) => offset < 4 || (8..12).contains(&offset),
@@ -233,8 +233,8 @@ impl fmt::Display for Shown<'_> {
         let (count, length) = (state.count, self.0.records.len());
         write!(
             f,
-            "[length {:#x}, {count} mappings in {length} records",
-            state.memory_length
+            "[length {:#x}, type {:#x}, {count} mappings in {length} records",
+            state.memory_length, state.iommu_type
         )?;
         for m in mappings.iter().take(66) {
             let (device, memory) = (m.device.0, m.memory.0);

@@ -14,7 +14,7 @@ const MEMORY_LIMIT: u64 = 1 << 30;
 
 /// The causes: what rule 1.12 rules out.
 #[rustfmt::skip]
-pub const CAUSES: [&str; 22] = [
+pub const CAUSES: [&str; 23] = [
     "a count above the records",
     "mappings out of order",
     "mappings that overlap",
@@ -37,6 +37,21 @@ pub const CAUSES: [&str; 22] = [
     "no such card",
     "notify value",
     "more than 4,096 records",
+    "no such IOMMU type",
+];
+
+/// Numbers that are no IOMMU type; in those with a high byte, the low one is.
+pub const NO_TYPES: [u32; 10] = [
+    0,
+    2,
+    4,
+    0x101,
+    0x103,
+    0x1_0003,
+    0x0100_0001,
+    0x0300_0003,
+    0x0300_0000,
+    u32::MAX,
 ];
 
 #[derive(Default)]
@@ -184,6 +199,7 @@ pub fn damaged(sound: &Kept, random: &mut Random) -> (usize, Kept) {
             let length = RECORDS_LIMIT + random.pick(&[1, 1, 2, 64]);
             records.resize(length, Mapping::default());
         }
+        "no such IOMMU type" => state.iommu_type = random.pick(&NO_TYPES),
         _ => unreachable!(),
     }
     (cause, kept)

@@ -3,7 +3,7 @@
 
 use std::fmt::Write;
 
-use glint_reference::bench::{mark_bytes, Mapping, PAGE};
+use glint_reference::bench::{mark_bytes, DeviceAddress, DeviceRange, Mapping, PAGE};
 use glint_reference::bytes::number_at;
 use glintbasket::raw::SLOTS;
 
@@ -14,7 +14,7 @@ const TOP: u64 = 1 << 48;
 const LONGEST: usize = 65_536;
 
 #[rustfmt::skip]
-pub const EVENTS: [&str; 86] = [
+pub const EVENTS: [&str; 107] = [
     "card read of 65,536 bytes accepted",
     "card write of 65,536 bytes accepted",
     "host store of 65,536 bytes accepted",
@@ -101,6 +101,27 @@ pub const EVENTS: [&str; 86] = [
     "look-up finds the last of 7 mappings that it looks at, among 64",
     "look-up finds the last of 13 mappings that it looks at, among 4,096",
     "look-up gives 14 after 13 mappings that it looks at, among 4,096",
+    "container 101 with 1 gives 1",
+    "container 102 makes Type1 of Type1v2",
+    "container 102 makes Type1v2 of Type1",
+    "container 102 with the type that there is accepted",
+    "container 102 with the type that there is gives 5 while mappings are held",
+    "container 102 with the other type gives 5 while mappings are held",
+    "container 102 with a type and a high byte gives 5",
+    "reset under Type1 accepted",
+    "fresh start on a state of Type1 accepted",
+    "unmap under Type1 blocked",
+    "unmap under Type1 blocked, with a mapping further up in the range",
+    "unmap under Type1 that one mapping encloses",
+    "unmap under Type1 of a mapping that begins at the range's start",
+    "unmap under Type1 of a mapping that begins at the range's start and ends beyond",
+    "unmap under Type1 of a mapping that begins further up and ends beyond",
+    "unmap under Type1 with a mapping that ends at the range's start",
+    "unmap under Type1 with a mapping that begins at the range's end",
+    "unmap under Type1 reports more than was asked for",
+    "unmap under Type1 of several mappings at once, the last of which ends beyond",
+    "unmap under Type1 of nothing, with nothing that blocks",
+    "unmap under Type1 between mappings that stay",
 ];
 
 const FEW_MARKS: usize = 34;
@@ -137,6 +158,27 @@ const FOUND_AT_ONCE: usize = 82;
 const FOUND_LAST_OF_7: usize = 83;
 const FOUND_LAST_OF_13: usize = 84;
 const NOT_FOUND_AFTER_13: usize = 85;
+const TYPE1_EXTENSION: usize = 86;
+const TO_TYPE1: usize = 87;
+const TO_TYPE1V2: usize = 88;
+const SAME_TYPE: usize = 89;
+const SAME_TYPE_HELD: usize = 90;
+const OTHER_TYPE_HELD: usize = 91;
+const HIGH_BYTE: usize = 92;
+const TYPE1_RESET: usize = 93;
+const TYPE1_START: usize = 94;
+const BLOCKED: usize = 95;
+const BLOCKED_BELOW: usize = 96;
+const ENCLOSED: usize = 97;
+const BEGINS_AT_START: usize = 98;
+const BEYOND_FROM_START: usize = 99;
+const BEYOND_FROM_WITHIN: usize = 100;
+const ENDS_AT_START: usize = 101;
+const BEGINS_AT_END: usize = 102;
+const MORE_THAN_ASKED: usize = 103;
+const SEVERAL_BEYOND: usize = 104;
+const NONE_BLOCKS: usize = 105;
+const RUN_BETWEEN: usize = 106;
 
 pub struct Events {
     counts: [u64; EVENTS.len()],
@@ -162,6 +204,9 @@ pub struct Before {
     encloses: bool,
     /// Of a map: how many held mappings lie below it.
     below: usize,
+    /// Of an unmap: the mappings held.
+    mappings: Vec<Mapping>,
+    iommu_type: u64,
     /// Whether the records are others than at the last call.
     exchanged: bool,
     /// The flags of the kept struct: whether the one for running is above 1, and whether each register's is.
@@ -183,6 +228,7 @@ impl Events {
         let mut before = Before {
             held: state.mappings().len(),
             registers: state.registers.len(),
+            iommu_type: state.iommu_type,
             exchanged: trio.exchanged,
             running_above: trio.kept().state.running > 1,
             set_above: trio.kept().state.registers.slots.map(|r| r.set > 1),
@@ -193,11 +239,7 @@ impl Events {
         };
         match made.call {
             Call::CardRead { device } | Call::CardWrite { device } => {
-                let end = u128::from(device) + made.buffer.len() as u128;
-                let range = glint_reference::bench::DeviceRange {
-                    first: u128::from(device),
-                    end,
-                };
+                let range = DeviceRange::new(DeviceAddress(device), made.buffer.len() as u64);
                 let met: Vec<_> = state
                     .mappings()
                     .iter()
@@ -223,6 +265,10 @@ impl Events {
                     .filter(|m| m.range().first < device)
                     .count();
             }
+            Call::Request {
+                target: 0,
+                number: 114,
+            } => before.mappings = state.mappings().to_vec(),
             _ => {}
         }
         before
@@ -244,6 +290,7 @@ impl Events {
         match made.call {
             Call::FreshStart { .. } => {
                 self.saw(30, done && trio.state.words == 2);
+                self.saw(TYPE1_START, done && before.iommu_type == 1);
                 let (memory, marks) = (made.lent.memory, made.lent.marks);
                 self.saw(START_WITH_NONE, done && records == 0);
                 self.saw(START_WITH_ALL, done && records == 4096);
@@ -298,10 +345,22 @@ impl Events {
             Call::Request {
                 target: 0,
                 number: 101,
-            } => {
-                self.saw(21, *answer == Answer::Done(1));
+            } if length >= 4 => {
+                let number = number_at(&made.buffer, 0, 4);
+                self.saw(21, number == 3 && *answer == Answer::Done(1));
+                self.saw(TYPE1_EXTENSION, number == 1 && *answer == Answer::Done(1));
                 self.saw(22, *answer == Answer::Done(0));
             }
+            Call::Request {
+                target: 0,
+                number: 102,
+            } if length >= 4 => {
+                self.asked_for(number_at(&made.buffer, 0, 4), &before, answer);
+            }
+            Call::Request {
+                target: 1,
+                number: 111,
+            } => self.saw(TYPE1_RESET, done && before.iommu_type == 1),
             Call::Forget { address, length } => {
                 self.saw(6, done && length == 0 && address == noted);
                 let end = address.checked_add(length);
@@ -340,6 +399,10 @@ impl Events {
                 self.saw(16, done && removed > 1);
                 self.saw(17, done && removed == 0);
                 self.saw(MOVED_DOWN, done && removed > 0 && above && held < records);
+                if done && before.iommu_type == 1 {
+                    let range = DeviceRange::new(DeviceAddress(device), size);
+                    self.unmapped_type1(range, &before.mappings);
+                }
             }
             Call::LookUp { device } => {
                 let mappings = trio.state.mappings();
@@ -389,6 +452,53 @@ impl Events {
             }
             _ => {}
         }
+    }
+
+    /// Of request 102 with a number.
+    fn asked_for(&mut self, number: u64, before: &Before, answer: &Answer) {
+        let done = *answer == Answer::Done(0);
+        let refused = answer.refusal() == Some(5);
+        let same = number == before.iommu_type;
+        self.saw(TO_TYPE1, done && !same && number == 1);
+        self.saw(TO_TYPE1V2, done && !same && number == 3);
+        self.saw(SAME_TYPE, done && same);
+        let held = refused && before.held > 0;
+        self.saw(SAME_TYPE_HELD, held && same);
+        self.saw(OTHER_TYPE_HELD, held && !same && matches!(number, 1 | 3));
+        let high = number > 0xff && matches!(number & 0xff, 1 | 3);
+        self.saw(HIGH_BYTE, refused && before.held == 0 && high);
+    }
+
+    /// Of an unmap that a container of Type1 accepted while it held these mappings.
+    fn unmapped_type1(&mut self, range: DeviceRange, held: &[Mapping]) {
+        let any = |test: &dyn Fn(&Mapping) -> bool| held.iter().any(test);
+        let begun: Vec<_> = held.iter().filter(|m| m.begins_in(range)).collect();
+        self.saw(ENDS_AT_START, any(&|m| m.range().end == range.first));
+        self.saw(BEGINS_AT_END, any(&|m| m.range().first == range.end));
+        if any(&|m| m.reaches_into(range)) {
+            self.saw(BLOCKED, true);
+            self.saw(BLOCKED_BELOW, !begun.is_empty());
+            let encloses = |m: &Mapping| m.reaches_into(range) && range.end < m.range().end;
+            self.saw(ENCLOSED, any(&encloses));
+            return;
+        }
+        self.saw(NONE_BLOCKS, begun.is_empty());
+        let (Some(first), Some(last)) = (begun.first(), begun.last()) else {
+            return;
+        };
+        let at_start = first.range().first == range.first;
+        let beyond = last.range().end > range.end;
+        self.saw(BEGINS_AT_START, at_start);
+        self.saw(BEYOND_FROM_START, at_start && beyond && begun.len() == 1);
+        self.saw(
+            BEYOND_FROM_WITHIN,
+            beyond && last.range().first > range.first,
+        );
+        self.saw(SEVERAL_BEYOND, beyond && begun.len() > 1);
+        let sizes: u128 = begun.iter().map(|m| u128::from(m.size)).sum();
+        self.saw(MORE_THAN_ASKED, sizes > range.end - range.first);
+        let around = held[0] != **first && held[held.len() - 1] != **last;
+        self.saw(RUN_BETWEEN, around);
     }
 
     /// Of a look-up that looked at so many mappings of those held, and found the last of them.

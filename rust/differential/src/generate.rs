@@ -247,6 +247,7 @@ impl Generator {
             memory_length: trio.state.noted_length.min(trio.capacity() as u64),
             running: u8::from(random.one_in(8)),
             words: random.pick(&[1, 2]),
+            iommu_type: random.pick(&[1, 3]),
             ..State::default()
         };
         let pages = state.memory_length / PAGE;
@@ -270,6 +271,7 @@ impl Generator {
         let size = match count {
             1 if large => random.pick(&[16, 17]) * PAGE,
             0..=5 => random.from(1, pages.clamp(1, 3)) * PAGE,
+            6..=64 => random.from(1, pages.clamp(1, 2)) * PAGE,
             _ => PAGE,
         };
         let total = count * (size + gap);
@@ -511,6 +513,7 @@ impl Generator {
             76..=82 => (1, 108, 32),
             83..=89 => (1, 109, 16),
             90..=91 => (1, 111, 0),
+            92..=95 => (0, 102, 4),
             _ => {
                 let target = self.random.pick(&[0, 1, 2, u32::MAX]);
                 (target, self.random.from(99, 118) as u32, 32)
@@ -534,9 +537,10 @@ impl Generator {
         };
         put(&mut buffer, 0, 4, argsz);
         match (target, number) {
-            (0, 101) => {
-                let extension = self.random.pick(&[3, 3, 1, 0, 2, 4, 0x103, 0x0300_0003]);
-                put(&mut buffer, 0, 4, extension);
+            (0, 101 | 102) => {
+                let other = self.random.pick(&damage::NO_TYPES);
+                let iommu_type = self.random.pick(&[1, 1, 1, 3, 3, 3, other, other]);
+                put(&mut buffer, 0, 4, iommu_type.into());
             }
             (0, 113) => self.map_fields(trio, &mut buffer),
             (0, 114) => self.unmap_fields(trio, &mut buffer),
@@ -620,7 +624,14 @@ impl Generator {
             // To the end of the same mapping, or of one of the next ones.
             let last = mappings[(i + random.pick(&[0, 0, 0, 1, 2, 63])).min(mappings.len() - 1)];
             device = m.device.0;
-            size = (last.range().end as u64).wrapping_sub(device);
+            let mut end = last.range().end as u64;
+            // From before the one, inside it or behind it, to before the other's end or beyond.
+            if random.one_in(3) {
+                let page_before = 0u64.wrapping_sub(PAGE);
+                device = device.wrapping_add(random.pick(&[0, page_before, PAGE, PAGE, m.size]));
+                end = end.wrapping_sub(random.pick(&[0, page_before, PAGE, PAGE, last.size]));
+            }
+            size = end.wrapping_sub(device);
         }
         let mut flags = 0;
         for _ in 0..random.pick(&[0, 0, 0, 0, 1, 1, 1, 2, 3]) {

@@ -43,6 +43,7 @@ pub fn meaning(kept: &Kept) -> bench::State {
         count: state.count as u64,
         running: state.is_running(),
         words: state.words.into(),
+        iommu_type: state.iommu_type.into(),
         registers,
     }
 }
@@ -53,6 +54,7 @@ pub fn means(state: &State, other: &bench::State) -> bool {
     state.memory_length == other.noted_length
         && state.is_running() == other.running
         && u64::from(state.words) == other.words
+        && u64::from(state.iommu_type) == other.iommu_type
         && state.count as u64 == other.count
         && registers == other.registers.len()
         && state

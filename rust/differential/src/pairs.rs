@@ -3,6 +3,8 @@
 
 use std::fmt::Write;
 
+use glintbasket::State;
+
 use crate::call::{Answer, Call};
 
 /// An accepted call; for the walker, a part.
@@ -19,14 +21,18 @@ const ANSWERS: usize = 31;
 type Row = (&'static str, &'static [usize]);
 
 #[rustfmt::skip]
-pub const ROWS: [Row; 24] = [
+pub const ROWS: [Row; 28] = [
     ("fresh start",           &[DONE, 1]),
     ("request not listed",    &[1, 2]),
     ("container 100",         &[DONE, 1]),
     ("container 101",         &[DONE, 1, 3]),
+    ("102, none held",        &[DONE, 1, 3, 5]),
+    ("102, mappings held",    &[1, 3, 5]),
     ("container 112",         &[DONE, 1, 3, 4]),
     ("container 113 map",     &[DONE, 1, 3, 4, 5, 8, 7, 9, 10, 11]),
-    ("container 114 unmap",   &[DONE, 1, 3, 4, 5, 8, 7, 9, 12]),
+    ("114 unmap, Type1",      &[DONE, 1, 3, 4, 5, 8, 7, 9]),
+    ("114 unmap, Type1v2",    &[DONE, 1, 3, 4, 5, 8, 7, 9, 12]),
+    ("114 unmap, no type",    &[1]),
     ("device 107",            &[DONE, 1, 3, 4]),
     ("device 108",            &[DONE, 1, 3, 4, 6]),
     ("device 109",            &[DONE, 1, 3, 4, 6]),
@@ -51,7 +57,8 @@ pub struct Pairs {
     counts: [[u64; ANSWERS]; ROWS.len()],
 }
 
-fn row_of(call: &Call) -> usize {
+/// The row of a call on a state: those of requests 102 and 114 go by it.
+pub fn row_of(call: &Call, state: &State) -> usize {
     let name = match *call {
         Call::FreshStart { .. } => "fresh start",
         Call::Request {
@@ -59,9 +66,15 @@ fn row_of(call: &Call) -> usize {
         } => match number {
             100 => "container 100",
             101 => "container 101",
+            102 if state.count == 0 => "102, none held",
+            102 => "102, mappings held",
             112 => "container 112",
             113 => "container 113 map",
-            114 => "container 114 unmap",
+            114 => match state.iommu_type {
+                1 => "114 unmap, Type1",
+                3 => "114 unmap, Type1v2",
+                _ => "114 unmap, no type",
+            },
             _ => "request not listed",
         },
         Call::Request {
@@ -109,7 +122,8 @@ impl Default for Pairs {
 }
 
 impl Pairs {
-    pub fn count(&mut self, call: &Call, answer: &Answer) {
+    /// Counts an answer of a [row](row_of).
+    pub fn count(&mut self, row: usize, answer: &Answer) {
         let column = match *answer {
             Answer::Done(_) | Answer::Found { .. } | Answer::Part { .. } => DONE,
             Answer::End => END,
@@ -117,7 +131,7 @@ impl Pairs {
             Answer::NotFound { probes: 0, .. } => NONE_HELD,
             Answer::NotFound { .. } => 14,
         };
-        self.counts[row_of(call)][column.min(ANSWERS - 1)] += 1;
+        self.counts[row][column.min(ANSWERS - 1)] += 1;
     }
 
     /// A line a call: each allowed answer and how often it came.

@@ -4,7 +4,7 @@ use crate::call::Step;
 use crate::damage::Damages;
 use crate::events::Events;
 use crate::generate::Generator;
-use crate::pairs::Pairs;
+use crate::pairs::{row_of, Pairs};
 use crate::shorten::{first_difference, shorten};
 use crate::trio::{Fault, Size, Tamper, Trio};
 
@@ -39,11 +39,14 @@ pub fn run_list(seed: u64, tamper: Tamper, coverage: &mut Coverage) -> Result<()
     for _ in 0..STEPS {
         let step = generator.next(&trio);
         let seen = Events::before(&step, &trio);
-        let outcome = trio.step(&step);
-        match (&step, outcome) {
-            (Step::Make(made), Ok(Some(answer))) => {
+        let made = match &step {
+            Step::Make(made) => Some((made, row_of(&made.call, &trio.given(made).state))),
+            _ => None,
+        };
+        match (made, trio.step(&step)) {
+            (Some((made, row)), Ok(Some(answer))) => {
                 coverage.calls += 1;
-                coverage.pairs.count(&made.call, &answer);
+                coverage.pairs.count(row, &answer);
                 coverage.events.count(seen, made, &answer, &trio);
             }
             (_, Ok(_)) => {}

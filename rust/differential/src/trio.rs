@@ -10,10 +10,23 @@ use crate::meaning::{first_other, mapping, meaning, means, value_size};
 use crate::programs::{emulate, refer};
 use crate::random::Random;
 
-/// Changes what the emulator answers and leaves: for tests of this program.
-pub type Tamper = fn(&Call, Answer, &mut Kept) -> Answer;
+/// A call on the emulator, with what it was given.
+pub struct Given<'a> {
+    pub call: &'a Call,
+    pub kept: &'a Kept,
+    pub buffer: &'a [u8],
+}
 
-pub fn faithful(_: &Call, answer: Answer, _: &mut Kept) -> Answer {
+/// What the call left.
+pub struct Left<'a> {
+    pub kept: &'a mut Kept,
+    pub buffer: &'a mut [u8],
+}
+
+/// Changes what the emulator answers and leaves: for tests of this program.
+pub type Tamper = fn(&Given, Answer, &mut Left) -> Answer;
+
+pub fn faithful(_: &Given, answer: Answer, _: &mut Left) -> Answer {
     answer
 }
 
@@ -100,6 +113,11 @@ impl Trio {
 
     pub fn kept(&self) -> &Kept {
         &self.emulator.kept
+    }
+
+    /// The state and the records that a call is given.
+    pub fn given<'a>(&'a self, made: &'a Made) -> &'a Kept {
+        made.given.as_ref().unwrap_or(self.kept())
     }
 
     /// One step on all three. The answer, if it is a call, or the first difference. A program that
@@ -209,8 +227,16 @@ impl Trio {
         let before = given.as_ref().unwrap_or(&self.emulator.kept).clone();
         let mut buffer = made.buffer.clone();
         let answer = self.emulator.make(made, given.as_mut(), &mut buffer);
-        let left = given.as_mut().unwrap_or(&mut self.emulator.kept);
-        let answer = (self.tamper)(call, answer, left);
+        let found = Given {
+            call,
+            kept: &before,
+            buffer: &made.buffer,
+        };
+        let mut left = Left {
+            kept: given.as_mut().unwrap_or(&mut self.emulator.kept),
+            buffer: &mut buffer,
+        };
+        let answer = (self.tamper)(&found, answer, &mut left);
         check(answer == expected, || {
             format!("the emulator answers {answer:x?}, the second program {expected:x?}")
         })?;

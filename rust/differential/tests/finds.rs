@@ -3,8 +3,26 @@
 
 use glint_differential::call::{Answer, Call};
 use glint_differential::run::{run_list, Coverage, Difference};
-use glint_differential::trio::{faithful, Tamper};
+use glint_differential::trio::{faithful, Given, Left, Tamper};
+use glint_reference::bytes::{number_at, put_number};
 use glintbasket::Mapping;
+
+const SET_IOMMU: Call = Call::Request {
+    target: 0,
+    number: 102,
+};
+const MAP: Call = Call::Request {
+    target: 0,
+    number: 113,
+};
+const UNMAP: Call = Call::Request {
+    target: 0,
+    number: 114,
+};
+const RESET: Call = Call::Request {
+    target: 1,
+    number: 111,
+};
 
 fn first_difference(tamper: Tamper) -> Difference {
     let mut coverage = Coverage::default();
@@ -13,14 +31,18 @@ fn first_difference(tamper: Tamper) -> Difference {
         .expect("the change is found")
 }
 
-#[test]
-fn the_emulator_and_the_second_program_agree() {
+fn no_difference(tamper: Tamper) {
     let mut coverage = Coverage::default();
     for seed in 0x1000..0x1040 {
-        if let Err(difference) = run_list(seed, faithful, &mut coverage) {
+        if let Err(difference) = run_list(seed, tamper, &mut coverage) {
             panic!("{}", difference.report());
         }
     }
+}
+
+#[test]
+fn the_emulator_and_the_second_program_agree() {
+    no_difference(faithful);
 }
 
 #[test]
@@ -41,14 +63,8 @@ fn a_wrong_place_is_found_and_the_list_is_short() {
 #[test]
 fn a_refusal_that_comes_too_late_is_found() {
     // 7 in place of 8: the order of two checks.
-    let difference = first_difference(|call, answer, _| match (call, answer) {
-        (
-            Call::Request {
-                target: 0,
-                number: 113,
-            },
-            Answer::Refused { code: 8, place },
-        ) => Answer::Refused { code: 7, place },
+    let difference = first_difference(|given, answer, _| match (given.call, answer) {
+        (&MAP, Answer::Refused { code: 8, place }) => Answer::Refused { code: 7, place },
         (_, other) => other,
     });
     assert!(difference.shortened().len() <= 3, "{}", difference.report());
@@ -56,7 +72,7 @@ fn a_refusal_that_comes_too_late_is_found() {
 
 #[test]
 fn a_wrong_result_is_found() {
-    let difference = first_difference(|call, answer, _| match (call, answer) {
+    let difference = first_difference(|given, answer, _| match (given.call, answer) {
         (Call::SaveParts, Answer::Done(length)) => Answer::Done(length + 1),
         (_, other) => other,
     });
@@ -66,22 +82,22 @@ fn a_wrong_result_is_found() {
 /// As if a mapping ran on into the next one where that adjoins.
 #[test]
 fn bytes_left_beyond_the_mapping_are_found() {
-    let difference = first_difference(|call, answer, kept| match (call, answer) {
+    let difference = first_difference(|given, answer, left| match (given.call, answer) {
         (
             Call::LookUp { device },
             Answer::Found {
                 address,
                 rights,
-                left,
+                left: bytes,
                 probes,
             },
         ) => {
-            let end = device + left;
-            let next = kept.mappings().iter().find(|m| m.device.0 == end);
+            let end = device + bytes;
+            let next = left.kept.mappings().iter().find(|m| m.device.0 == end);
             Answer::Found {
                 address,
                 rights,
-                left: left + next.map_or(0, |m| m.size),
+                left: bytes + next.map_or(0, |m| m.size),
                 probes,
             }
         }
@@ -107,17 +123,139 @@ fn a_wrong_count_of_a_look_up_is_found() {
 /// Records past the count mean nothing, and still no call may change one.
 #[test]
 fn a_stale_record_that_is_cleared_is_found() {
-    let difference = first_difference(|call, answer, kept| {
-        let unmap = Call::Request {
-            target: 0,
-            number: 114,
-        };
-        if *call == unmap && answer == Answer::Done(0) {
-            if let Some(record) = kept.stale_mut().first_mut() {
+    let difference = first_difference(|given, answer, left| {
+        if *given.call == UNMAP && answer == Answer::Done(0) {
+            if let Some(record) = left.kept.stale_mut().first_mut() {
                 *record = Mapping::default();
             }
         }
         answer
     });
     assert!(difference.shortened().len() <= 3, "{}", difference.report());
+}
+
+// ---- the container's IOMMU type
+
+/// The range, [first, end), of an unmap that a container of Type1 accepted.
+fn type1_range(given: &Given, answer: Answer) -> Option<(u64, u64)> {
+    let accepted = *given.call == UNMAP && answer == Answer::Done(0);
+    if !accepted || given.kept.state.iommu_type != 1 {
+        return None;
+    }
+    let (first, size) = (
+        number_at(given.buffer, 8, 8),
+        number_at(given.buffer, 16, 8),
+    );
+    Some((first, first + size))
+}
+
+/// The mappings that an unmap removed: what it was given less what it left.
+fn removed(given: &Given, left: &Left) -> Vec<Mapping> {
+    let (held, stay) = (given.kept.mappings(), left.kept.mappings());
+    let gone = held.iter().filter(|m| !stay.contains(m));
+    gone.copied().collect()
+}
+
+/// As if the unmap had removed those of which the test holds, and no other.
+fn removes_instead(given: &Given, left: &mut Left, goes: impl Fn(&Mapping) -> bool) {
+    *left.kept = given.kept.clone();
+    let (gone, stay): (Vec<_>, Vec<_>) = given.kept.mappings().iter().partition(|m| goes(m));
+    left.kept.records[..stay.len()].copy_from_slice(&stay);
+    left.kept.state.count = stay.len();
+    let sizes = gone.iter().map(|m: &Mapping| m.size).sum();
+    put_number(left.buffer, 16, 8, sizes);
+}
+
+/// So that the tests below find what is removed, and not how this file does it.
+#[test]
+fn what_an_unmap_removed_may_be_removed_instead() {
+    no_difference(|given, answer, left| {
+        if type1_range(given, answer).is_some() {
+            let begun = removed(given, left);
+            removes_instead(given, left, |m| begun.contains(m));
+        }
+        answer
+    });
+}
+
+#[test]
+fn an_unmap_under_type1_of_what_lies_inside_alone_is_found() {
+    let difference = first_difference(|given, answer, left| {
+        if let Some((_, end)) = type1_range(given, answer) {
+            let begun = removed(given, left);
+            removes_instead(given, left, |m| {
+                begun.contains(m) && m.device.0 + m.size <= end
+            });
+        }
+        answer
+    });
+    assert!(difference.shortened().len() <= 4, "{}", difference.report());
+}
+
+#[test]
+fn a_size_field_under_type1_of_the_part_inside_is_found() {
+    let difference = first_difference(|given, answer, left| {
+        if let Some((_, end)) = type1_range(given, answer) {
+            let parts = removed(given, left);
+            let sizes = parts.iter().map(|m| m.size.min(end - m.device.0)).sum();
+            put_number(left.buffer, 16, 8, sizes);
+        }
+        answer
+    });
+    assert!(difference.shortened().len() <= 4, "{}", difference.report());
+}
+
+#[test]
+fn a_mapping_at_the_ranges_start_that_blocks_under_type1_is_found() {
+    let difference = first_difference(|given, answer, left| {
+        if let Some((first, _)) = type1_range(given, answer) {
+            let blocks = |m: &Mapping| m.device.0 == first;
+            if given.kept.mappings().iter().any(blocks) {
+                removes_instead(given, left, |_| false);
+            }
+        }
+        answer
+    });
+    assert!(difference.shortened().len() <= 4, "{}", difference.report());
+}
+
+/// As if only the part of an unmap under Type1 that is not blocked went.
+#[test]
+fn a_blocked_unmap_under_type1_that_removes_others_is_found() {
+    let difference = first_difference(|given, answer, left| {
+        if let Some((first, end)) = type1_range(given, answer) {
+            removes_instead(given, left, |m| (first..end).contains(&m.device.0));
+        }
+        answer
+    });
+    assert!(difference.shortened().len() <= 4, "{}", difference.report());
+}
+
+#[test]
+fn an_iommu_type_that_changes_while_mappings_are_held_is_found() {
+    let difference = first_difference(|given, answer, left| {
+        let refused = answer == Answer::Refused { code: 5, place: 0 };
+        if *given.call != SET_IOMMU || !refused || given.kept.state.count == 0 {
+            return answer;
+        }
+        let number = number_at(given.buffer, 0, 4) as u32;
+        if number != 1 && number != 3 {
+            return answer;
+        }
+        left.kept.state.iommu_type = number;
+        Answer::Done(0)
+    });
+    assert!(difference.shortened().len() <= 4, "{}", difference.report());
+}
+
+/// The answer is right, the state is not.
+#[test]
+fn an_iommu_type_that_a_reset_changes_is_found() {
+    let difference = first_difference(|given, answer, left| {
+        if *given.call == RESET && answer == Answer::Done(0) {
+            left.kept.state.iommu_type = 3;
+        }
+        answer
+    });
+    assert!(difference.shortened().len() <= 4, "{}", difference.report());
 }

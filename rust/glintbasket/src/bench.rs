@@ -4,6 +4,7 @@ use crate::address::{DeviceAddress, MemoryAddress, Rights};
 use crate::builder::Builder;
 use crate::card::Card;
 use crate::error::{LookUpError, Result};
+use crate::iommu_type::IommuType;
 use crate::lent::Lent;
 use crate::raw::{self, Mapping, State};
 use std::{fmt, result};
@@ -161,8 +162,13 @@ impl<'m> Bench<'m> {
         self.state.card()
     }
 
-    /// Fresh start of the card with 64 feature bits: all marks 0, memory bytes and records untouched, no mapping, the device stopped and
-    /// reset.
+    /// Of which IOMMU type the container is; none in a state that is not sound.
+    pub fn iommu_type(&self) -> Option<IommuType> {
+        IommuType::from_number(self.state.iommu_type)
+    }
+
+    /// Fresh start of the card with 64 feature bits: all marks 0, memory bytes and records untouched, no mapping, the container of
+    /// [`IommuType::Type1v2`], the device stopped and reset.
     ///
     /// Refused: `BadBench`.
     pub fn power_on(&mut self) -> Result<()> {
@@ -405,6 +411,7 @@ impl fmt::Debug for Bench<'_> {
     fn fmt(&self, f: &mut fmt::Formatter<'_>) -> fmt::Result {
         f.debug_struct("Bench")
             .field("memory_length", &self.memory.len())
+            .field("iommu_type", &self.iommu_type())
             .field("mappings", &self.mappings())
             .field("running", &self.state.is_running())
             .finish_non_exhaustive()

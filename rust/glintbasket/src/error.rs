@@ -36,7 +36,7 @@ refusals! {
     Short = 3,
     /// `argsz` is below the request's size or above the buffer's length.
     ArgSize = 4,
-    /// Flags are not allowed.
+    /// Flags are not allowed; or the container cannot become of an IOMMU type: there is none of that number, or a mapping is held.
     Flags = 5,
     /// There is no such region, interrupt, queue or field. Place in a stream: the start of the part.
     Index = 6,
@@ -50,7 +50,7 @@ refusals! {
     Overlap = 10,
     /// As many mappings are held as there are records.
     NoRoom = 11,
-    /// The range holds some but not all of a mapping.
+    /// The range holds some but not all of a mapping. Never in a container of [`Type1`](crate::IommuType::Type1).
     Cuts = 12,
     /// A transfer or stream over 65,536 bytes.
     TooLong = 13,

@@ -72,6 +72,11 @@
 //! }
 //! ```
 //!
+//! # Older containers
+//!
+//! A container is of [`IommuType::Type1v2`] until the driver asks for [`IommuType::Type1`] by [`Bench::set_iommu`]. They differ in what
+//! [`Bench::unmap`] removes.
+//!
 //! # What remains for the caller
 //!
 //! Every state, number, length and order of calls has an answer. Three things no call can test, and in safe Rust the types see to them:
@@ -99,6 +104,7 @@ mod builder;
 mod card;
 mod check_save;
 mod error;
+mod iommu_type;
 mod lent;
 mod parts;
 #[allow(unsafe_code)]
@@ -111,6 +117,7 @@ pub use builder::Builder;
 pub use card::Card;
 pub use check_save::{check_save, SaveCheck};
 pub use error::{Error, LookUpError, Refusal, Result};
+pub use iommu_type::IommuType;
 pub use parts::{Part, Parts, PART_HEADER};
 #[doc(inline)]
 pub use raw::{Mapping, Register, Registers, State};

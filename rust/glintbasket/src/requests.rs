@@ -3,6 +3,7 @@
 use crate::address::{DeviceAddress, MemoryAddress, Rights};
 use crate::bench::{Bench, Target};
 use crate::error::Result;
+use crate::iommu_type::IommuType;
 
 /// The numbers of requests: the low byte of the kernel's `VFIO_*` request.
 pub mod number {
@@ -10,6 +11,8 @@ pub mod number {
     pub const GET_API_VERSION: u32 = 100;
     /// Container: whether an extension is there.
     pub const CHECK_EXTENSION: u32 = 101;
+    /// Container: set its IOMMU type.
+    pub const SET_IOMMU: u32 = 102;
     /// Container: what the IOMMU can do.
     pub const IOMMU_GET_INFO: u32 = 112;
     /// Container: map.
@@ -72,11 +75,50 @@ impl Bench<'_> {
         self.request(Target::CONTAINER, number::GET_API_VERSION, &mut [])
     }
 
-    /// Whether the container has an extension. It has 3, Type1v2, and no other.
+    /// Whether the container has an extension, by number. It has the numbers of [`IommuType`], 1 and 3, and no other.
     pub fn check_extension(&mut self, extension: u32) -> Result<bool> {
         let mut buffer = extension.to_le_bytes();
         let result = self.request(Target::CONTAINER, number::CHECK_EXTENSION, &mut buffer)?;
         Ok(result == 1)
+    }
+
+    /// Makes the container one of this IOMMU type, until the next fresh start; a [`reset`](Bench::reset) of the device keeps it.
+    ///
+    /// Refused: `BadBench`; `Flags` while a mapping is held, also with the type that the container is of.
+    ///
+    /// What an older driver does first, and what then becomes of its unmaps:
+    ///
+    /// ```
+    /// use glintbasket::{DeviceAddress, Error, IommuType, MemoryAddress, OwnedBench, Refusal, Rights};
+    ///
+    /// fn main() -> Result<(), Error> {
+    ///     let mut bench = OwnedBench::with_memory(vec![0; 8192])?;
+    ///     assert!(bench.check_extension(IommuType::Type1.number())?);
+    ///     bench.set_iommu(IommuType::Type1)?;
+    ///     bench.map(MemoryAddress(0), DeviceAddress(0x10000), 8192, Rights::READ)?;
+    ///
+    ///     // The mapping begins before this range and holds its start: nothing goes.
+    ///     assert_eq!(bench.unmap(DeviceAddress(0x11000), 4096)?, 0);
+    ///     // It begins in this one: it goes whole, so more than was asked for.
+    ///     assert_eq!(bench.unmap(DeviceAddress(0x10000), 4096)?, 8192);
+    ///
+    ///     // Type1v2 refuses to cut it.
+    ///     bench.set_iommu(IommuType::Type1v2)?;
+    ///     bench.map(MemoryAddress(0), DeviceAddress(0x10000), 8192, Rights::READ)?;
+    ///     let cut = bench.unmap(DeviceAddress(0x10000), 4096).unwrap_err();
+    ///     assert_eq!(cut.refusal, Refusal::Cuts);
+    ///
+    ///     // A mapping is held, so the type stays.
+    ///     let held = bench.set_iommu(IommuType::Type1).unwrap_err();
+    ///     assert_eq!(held.refusal, Refusal::Flags);
+    ///     assert_eq!(bench.iommu_type(), Some(IommuType::Type1v2));
+    ///     Ok(())
+    /// }
+    /// ```
+    pub fn set_iommu(&mut self, iommu_type: IommuType) -> Result<()> {
+        let mut buffer = iommu_type.number().to_le_bytes();
+        self.request(Target::CONTAINER, number::SET_IOMMU, &mut buffer)?;
+        Ok(())
     }
 
     /// What the IOMMU can do.
@@ -108,9 +150,13 @@ impl Bench<'_> {
         Ok(())
     }
 
-    /// Removes every mapping that lies wholly inside the range. Gives the sum of their sizes, which may be 0.
+    /// Removes mappings, by the container's [`IommuType`]. Gives the sum of their sizes, which may be 0.
     ///
-    /// Refused: `BadBench`, `Empty`, `Unaligned`, `Range`, `Cuts`.
+    /// - [`Type1v2`](IommuType::Type1v2): every one that lies wholly inside the range.
+    /// - [`Type1`](IommuType::Type1): every one that begins in the range, whole, so that the sum may exceed `size`; none where one begins
+    ///   before the range and holds its start.
+    ///
+    /// Refused: `BadBench`, `Empty`, `Unaligned`, `Range`, and for `Type1v2` alone `Cuts`.
     pub fn unmap(&mut self, device: DeviceAddress, size: u64) -> Result<u64> {
         let mut buffer = Buffer::<24>::new().with_u64(8, device.0).with_u64(16, size);
         self.request(Target::CONTAINER, number::IOMMU_UNMAP_DMA, &mut buffer.0)?;

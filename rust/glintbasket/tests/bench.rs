@@ -4,9 +4,9 @@ mod common;
 
 use common::{bench, refused, GARBAGE, PAGE};
 use glintbasket::{
-    marks_len, Bench, Card, DeviceAddress, Error, Location, LookUpError, Mapping, MemoryAddress,
-    OwnedBench, Refusal, Result, Rights, DEFAULT_RECORDS, DEVICE_LIMIT, MEMORY_LIMIT,
-    RECORDS_LIMIT, TRANSFER_LIMIT,
+    marks_len, Bench, Card, DeviceAddress, Error, IommuType, Location, LookUpError, Mapping,
+    MemoryAddress, OwnedBench, Refusal, Result, Rights, DEFAULT_RECORDS, DEVICE_LIMIT,
+    MEMORY_LIMIT, RECORDS_LIMIT, TRANSFER_LIMIT,
 };
 
 // ---- making a bench
@@ -164,6 +164,23 @@ fn resume_of_an_unsound_state_is_refused_by_every_call_but_power_on() {
     assert_eq!(bench.records(), [STALE; 3]);
 }
 
+#[test]
+fn resume_of_a_state_of_no_iommu_type_is_refused() {
+    let (mut memory, mut marks) = ([0; 16], [0; 2]);
+    let mut state = *Bench::new(&mut memory, &mut marks).unwrap().state();
+    for number in [0, 2, 0x103, 0x0100_0001] {
+        state.iommu_type = number;
+        let mut bench = Bench::resume(state, &mut [], &mut memory, &mut marks);
+        assert_eq!(bench.iommu_type(), None);
+        assert_eq!(bench.start(), refused(Refusal::BadBench, 0));
+        let set = bench.set_iommu(IommuType::Type1);
+        assert_eq!(set, refused(Refusal::BadBench, 0));
+        assert_eq!(bench.state().iommu_type, number);
+        assert_eq!(bench.power_on(), Ok(()));
+        assert_eq!(bench.iommu_type(), Some(IommuType::Type1v2));
+    }
+}
+
 // ---- records
 
 #[test]
@@ -271,7 +288,7 @@ fn debug_tells_the_lengths_and_not_the_bytes() {
     let text = format!("{:?}", bench(1));
     assert_eq!(
         text,
-        "Bench { memory_length: 4096, mappings: [], running: false, .. }"
+        "Bench { memory_length: 4096, iommu_type: Some(Type1v2), mappings: [], running: false, .. }"
     );
 }
 

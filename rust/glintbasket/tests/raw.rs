@@ -57,6 +57,7 @@ fn memory_and_the_table_cross() {
     let mut records = [Mapping::default(); 2];
     let mut state = fresh(&records, &memory, &mut marks);
     assert_eq!((state.memory_length, state.count), (8192, 0));
+    assert_eq!(state.iommu_type, 3);
     assert!(marks.iter().all(|mark| *mark == 0));
 
     let mut buffer = map_request(4096, 0x10000, 4096, 3);

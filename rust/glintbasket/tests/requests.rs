@@ -4,8 +4,8 @@ mod common;
 
 use common::{bench, refused, PAGE};
 use glintbasket::{
-    number, DeviceAddress, DeviceInfo, IommuInfo, IrqInfo, Mapping, MemoryAddress, OwnedBench,
-    Refusal, RegionInfo, Result, Rights, Target, DEFAULT_RECORDS, DEVICE_LIMIT,
+    number, Card, DeviceAddress, DeviceInfo, IommuInfo, IommuType, IrqInfo, Mapping, MemoryAddress,
+    OwnedBench, Refusal, RegionInfo, Result, Rights, Target, DEFAULT_RECORDS, DEVICE_LIMIT,
 };
 
 fn map(bench: &mut OwnedBench, memory: u64, device: u64, size: u64) -> Result<()> {
@@ -78,11 +78,78 @@ fn api_version_is_0() {
 }
 
 #[test]
-fn check_extension_knows_type1v2_alone() {
+fn check_extension_knows_the_two_iommu_types_alone() {
     let mut bench = bench(1);
-    assert_eq!(bench.check_extension(3), Ok(true));
-    assert_eq!(bench.check_extension(1), Ok(false));
-    assert_eq!(bench.check_extension(0x0300_0000), Ok(false));
+    for iommu_type in [IommuType::Type1, IommuType::Type1v2] {
+        assert_eq!(bench.check_extension(iommu_type.number()), Ok(true));
+    }
+    for number in NO_TYPES {
+        assert_eq!(bench.check_extension(number), Ok(false), "{number:#x}");
+    }
+}
+
+/// Numbers of no IOMMU type; in those with a high byte, the low one is of one.
+const NO_TYPES: [u32; 8] = [0, 2, 4, 0x101, 0x103, 0x0100_0001, 0x0300_0000, 0xffff_ff03];
+
+#[test]
+fn iommu_types_have_the_kernels_numbers() {
+    for (iommu_type, number) in [(IommuType::Type1, 1), (IommuType::Type1v2, 3)] {
+        assert_eq!(iommu_type.number(), number);
+        assert_eq!(IommuType::from_number(number), Some(iommu_type));
+        assert_eq!(iommu_type.to_string(), format!("{iommu_type:?}"));
+    }
+    assert_eq!(NO_TYPES.map(IommuType::from_number), [None; 8]);
+}
+
+/// Request 102 with any number.
+fn set_iommu(bench: &mut OwnedBench, number: u32) -> Result<u64> {
+    let mut buffer = number.to_le_bytes();
+    let answer = bench.request(Target::CONTAINER, number::SET_IOMMU, &mut buffer);
+    assert_eq!(buffer, number.to_le_bytes());
+    answer
+}
+
+#[test]
+fn set_iommu_takes_either_type_and_no_other() {
+    let mut bench = bench(1);
+    assert_eq!(bench.iommu_type(), Some(IommuType::Type1v2));
+    for iommu_type in [IommuType::Type1, IommuType::Type1, IommuType::Type1v2] {
+        assert_eq!(bench.set_iommu(iommu_type), Ok(()));
+        assert_eq!(bench.iommu_type(), Some(iommu_type));
+        for number in NO_TYPES {
+            assert_eq!(set_iommu(&mut bench, number), refused(Refusal::Flags, 0));
+        }
+        assert_eq!(bench.state().iommu_type, iommu_type.number());
+    }
+    let short = bench.request(Target::CONTAINER, number::SET_IOMMU, &mut [1, 0, 0]);
+    assert_eq!(short, refused(Refusal::Short, 0));
+}
+
+#[test]
+fn set_iommu_is_refused_while_a_mapping_is_held() {
+    for iommu_type in [IommuType::Type1, IommuType::Type1v2] {
+        let mut bench = bench(1);
+        bench.set_iommu(iommu_type).unwrap();
+        map(&mut bench, 0, 0, PAGE).unwrap();
+        for asked in [IommuType::Type1, IommuType::Type1v2] {
+            assert_eq!(bench.set_iommu(asked), refused(Refusal::Flags, 0));
+        }
+        assert_eq!(bench.iommu_type(), Some(iommu_type));
+        bench.unmap(DeviceAddress(0), PAGE).unwrap();
+        assert_eq!(bench.set_iommu(IommuType::Type1), Ok(()));
+    }
+}
+
+#[test]
+fn reset_keeps_the_iommu_type_and_a_fresh_start_does_not() {
+    let mut bench = bench(1);
+    for card in [Card::Features64, Card::Features128] {
+        bench.set_iommu(IommuType::Type1).unwrap();
+        bench.reset().unwrap();
+        assert_eq!(bench.iommu_type(), Some(IommuType::Type1));
+        bench.power_on_as(card).unwrap();
+        assert_eq!(bench.iommu_type(), Some(IommuType::Type1v2));
+    }
 }
 
 #[test]
@@ -168,6 +235,50 @@ fn unmap_gives_the_sum_of_the_sizes_removed() {
     assert_eq!(unmap(0, 3 * PAGE), Ok(3 * PAGE));
     assert_eq!(unmap(0, 3 * PAGE), Ok(0));
     assert_eq!(bench.mappings(), []);
+}
+
+/// In a container of Type1: pages 0 and 1, page 2, and pages 4 and 5.
+fn older_bench() -> OwnedBench {
+    let mut bench = bench(2);
+    bench.set_iommu(IommuType::Type1).unwrap();
+    for (page, pages) in [(0, 2), (2, 1), (4, 2)] {
+        map(&mut bench, 0, page * PAGE, pages * PAGE).unwrap();
+    }
+    bench
+}
+
+#[test]
+fn unmap_under_type1_removes_what_begins_in_the_range() {
+    // First page and pages of the range, pages reported, first pages of the mappings that stay.
+    let cases: [(u64, u64, u64, &[u64]); 7] = [
+        (0, 1, 2, &[2, 4]), // begins at the range's start, ends beyond
+        (0, 3, 3, &[4]),
+        (2, 1, 1, &[0, 4]),    // a mapping ends at the range's start
+        (3, 1, 0, &[0, 2, 4]), // one begins at its end
+        (3, 2, 2, &[0, 2]),    // begins in the range, ends beyond
+        (2, 3, 3, &[0]),
+        (0, 6, 5, &[]),
+    ];
+    for (page, pages, reported, left) in cases {
+        let mut bench = older_bench();
+        let removed = bench.unmap(DeviceAddress(page * PAGE), pages * PAGE);
+        assert_eq!(removed, Ok(reported * PAGE), "{pages} from {page} on");
+        let held: Vec<u64> = bench.mappings().iter().map(|m| m.device.0 / PAGE).collect();
+        assert_eq!(held, left, "{pages} from {page} on");
+    }
+}
+
+#[test]
+fn unmap_under_type1_is_blocked_by_a_mapping_from_before() {
+    let mut bench = older_bench();
+    let before = bench.records().to_vec();
+    for (page, pages) in [(1, 1), (1, 2), (1, 6), (5, 1), (5, 100)] {
+        let removed = bench.unmap(DeviceAddress(page * PAGE), pages * PAGE);
+        assert_eq!(removed, Ok(0), "{pages} from {page} on");
+        assert_eq!((bench.mappings().len(), bench.records()), (3, &before[..]));
+    }
+    let past = bench.unmap(DeviceAddress(PAGE), DEVICE_LIMIT);
+    assert_eq!(past, refused(Refusal::Range, 0));
 }
 
 // ---- device

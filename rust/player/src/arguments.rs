@@ -21,8 +21,9 @@ usage: glintbasket play [--garbage BYTE] [--twice] FILE
        glintbasket --help | --version
 
 play    plays FILE and prints one line for each call
-show    plays FILE and prints a map of its memory, the mappings and the last
-        refused byte; only calls that differ from what is expected are printed
+show    plays FILE and prints a map of its memory, the container's type, the
+        mappings and the last refused byte; only calls that differ from what is
+        expected are printed
 check-save
         says whether the bytes of FILE are what saving writes; if not, the place
         of the first byte that no save has there, in which part and field

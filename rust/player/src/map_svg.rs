@@ -1,6 +1,6 @@
 //! The map of memory as a picture. What a colour tells, a hatching, a frame or a letter tells as well.
 
-use crate::map_text::{mapping_lines, refused_in_words};
+use crate::map_text::{container_in_words, mapping_lines, refused_in_words};
 use crate::pages::{range, row_around, stretches, Stretch, Written};
 use crate::play::RefusedByte;
 use glintbasket::{Bench, Rights, PAGE_SIZE};
@@ -42,7 +42,7 @@ text { font: 13px sans-serif; fill: #1a1a1a }
 </style>
 "##;
 
-/// The picture of pages, mappings and the last refused byte.
+/// The picture of pages, the container's type, mappings and the last refused byte.
 pub fn draw(title: &str, bench: &Bench, refused: Option<&RefusedByte>) -> String {
     let mut picture = Picture {
         body: String::new(),
@@ -163,6 +163,8 @@ impl Picture {
     fn mappings(&mut self, bench: &Bench) {
         let mappings = bench.mappings();
         self.line("head", MARGIN, &format!("Mappings: {}", mappings.len()));
+        let container = format!("container: {}", container_in_words(bench));
+        self.line("", MARGIN, &container);
         for (number, text) in mapping_lines(mappings) {
             self.line("", MARGIN, &format!("{number}  {text}"));
         }

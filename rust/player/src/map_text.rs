@@ -5,10 +5,11 @@ use crate::play::RefusedByte;
 use glintbasket::{Bench, Mapping, PAGE_SIZE};
 use std::io::{self, Write};
 
-/// Prints pages, mappings and the last refused byte.
+/// Prints pages, the container's type, mappings and the last refused byte.
 pub fn print(out: &mut impl Write, bench: &Bench, refused: Option<&RefusedByte>) -> io::Result<()> {
     print_pages(out, bench)?;
     writeln!(out)?;
+    writeln!(out, "container: {}", container_in_words(bench))?;
     print_mappings(out, bench.mappings())?;
     writeln!(out)?;
     print_refused(out, bench, refused)
@@ -78,6 +79,12 @@ fn told((first, last): (usize, usize)) -> String {
         1 => format!("{first}, {last}"),
         _ => format!("{first} to {last}"),
     }
+}
+
+/// The container's IOMMU type, which says what an unmap removes, and its number.
+pub fn container_in_words(bench: &Bench) -> String {
+    let iommu_type = bench.iommu_type().expect("a session's state is sound");
+    format!("{iommu_type} ({})", iommu_type.number())
 }
 
 fn print_mappings(out: &mut impl Write, mappings: &[Mapping]) -> io::Result<()> {

@@ -292,6 +292,7 @@ memory: 18432 bytes, pages of 4096 bytes: 5
   0x3000..0x47ff                 2  unwritten                     -
   (unwritten: never written, or forgotten since)
 
+container: Type1v2 (3)
 mappings: 2
    1  device 0x10000..0x11fff shows memory 0x1000..0x2fff: read
    2  device 0x20000..0x20fff shows memory 0x2000..0x2fff: read, write
@@ -308,11 +309,29 @@ fn show_prints_pages_mappings_and_the_refused_byte() {
 }
 
 #[test]
+fn show_tells_the_type_of_an_older_container() {
+    let session = file(
+        "older.session",
+        "memory 0\nrequest container set-iommu number=1 => ok 0\n",
+    );
+    let svg = path("older.svg");
+    let output = run(&["show", "--svg", svg.to_str().unwrap(), &session]);
+    let shown = String::from_utf8(output.stdout).unwrap();
+    assert!(
+        shown.contains("\ncontainer: Type1 (1)\nmappings: none\n"),
+        "{shown}"
+    );
+    let picture = fs::read_to_string(svg).unwrap();
+    assert!(picture.contains(">container: Type1 (1)</text>"));
+}
+
+#[test]
 fn show_tells_a_byte_in_no_mapping() {
     let session = file("unmapped.session", "memory 0\ncard-read 5 1\n");
     let expected = "\
 memory: 0 bytes, pages of 4096 bytes: 0
 
+container: Type1v2 (3)
 mappings: none
 
 last refused byte: line 2, refused 14 Unmapped at 0: device address 0x5, in no mapping
@@ -412,6 +431,7 @@ fn the_picture_has_every_page_the_mappings_and_a_legend() {
         "picture.session</text>",
         "Legend",
         "memory 0x1000..0x1fff: 5 of 4096 bytes written",
+        "container: Type1v2 (3)",
         "device 0x20000..0x20fff shows memory 0x2000..0x2fff: read, write",
         "refused 16 Unwritten at 5",
     ] {

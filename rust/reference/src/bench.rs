@@ -17,6 +17,14 @@ pub const LENGTH_LIMIT: usize = 65_536;
 pub const READ: u64 = 1;
 pub const WRITE: u64 = 2;
 
+/// The IOMMU types that a container may be of, by their numbers.
+pub const TYPE1: u64 = 1;
+pub const TYPE1V2: u64 = 3;
+
+pub fn is_iommu_type(number: u64) -> bool {
+    number == TYPE1 || number == TYPE1V2
+}
+
 /// How many mark bytes a memory of this length has: one for each eight bytes begun.
 pub fn mark_bytes(memory: usize) -> usize {
     memory / 8 + usize::from(memory % 8 > 0)
@@ -126,6 +134,15 @@ impl Mapping {
         other.first <= self.range().first && self.range().end <= other.end
     }
 
+    pub fn begins_in(&self, other: DeviceRange) -> bool {
+        other.first <= self.range().first && self.range().first < other.end
+    }
+
+    /// Whether it begins before a range and holds its start. One that ends there does not hold it.
+    pub fn reaches_into(&self, other: DeviceRange) -> bool {
+        self.range().first < other.first && self.holds(other.first)
+    }
+
     fn sound(&self, noted_length: u64) -> bool {
         self.memory.aligned()
             && self.device.aligned()
@@ -149,6 +166,8 @@ pub struct State {
     pub running: bool,
     /// Which card it is: the words of its features.
     pub words: Words,
+    /// The container's IOMMU type, by its number.
+    pub iommu_type: u64,
     pub registers: Registers,
 }
 
@@ -166,6 +185,7 @@ impl State {
             count: 0,
             running: false,
             words,
+            iommu_type: TYPE1V2,
             registers: registers::reset(),
         }
     }
@@ -182,6 +202,7 @@ impl State {
             && u128::from(self.count) <= self.records.len() as u128
             && self.mappings().iter().all(|m| m.sound(self.noted_length))
             && self.rising_and_apart()
+            && is_iommu_type(self.iommu_type)
             && registers::sound(self.words, &self.registers)
     }
 
@@ -358,11 +379,13 @@ mod tests {
     fn a_fresh_start_replaces_any_state_and_keeps_memory() {
         let mut state = unsound();
         state.running = true;
+        state.iommu_type = TYPE1;
         let memory = vec![7; 100];
         let mut marks = vec![255; 13];
         assert_eq!(fresh_start(&mut state, 1, &memory, &mut marks), Ok(0));
         assert_eq!(state, State::fresh_card(1, 100, unsound().records));
         assert_eq!((state.running, state.count), (false, 0));
+        assert_eq!(state.iommu_type, 3);
         assert_eq!(memory, vec![7; 100]);
         assert_eq!(marks[..12], [0; 12]);
         assert_eq!(marks[12], 0xf0);
@@ -476,6 +499,19 @@ mod tests {
     fn a_noted_length_over_2_to_the_30_is_unsound() {
         assert!(State::fresh(1 << 30).sound());
         assert!(!State::fresh((1 << 30) + 1).sound());
+    }
+
+    /// Rule 1.19: 1 or 3, all four bytes of it.
+    #[test]
+    fn the_iommu_type_of_a_sound_state_is_1_or_3() {
+        let of_type = |iommu_type| State {
+            iommu_type,
+            ..State::fresh(8_192)
+        };
+        assert!(of_type(1).sound() && of_type(3).sound());
+        for number in [0, 2, 4, 0x101, 0x103, 0x0100_0000, 0x0300_0001, 0xffff_ffff] {
+            assert!(!of_type(number).sound(), "{number}");
+        }
     }
 
     /// Rule 1.12: values of set registers count; status must be set.

@@ -1,7 +1,10 @@
 //! The requests on the container and on the card.
 
 use crate::answer::{refuse_if, Answer, Refusal};
-use crate::bench::{DeviceAddress, DeviceRange, Mapping, MemoryAddress, State, DEVICE_LIMIT, PAGE};
+use crate::bench::{
+    is_iommu_type, DeviceAddress, DeviceRange, Mapping, MemoryAddress, State, DEVICE_LIMIT, PAGE,
+    TYPE1,
+};
 use crate::bytes::{number_at, put_number};
 use crate::registers;
 
@@ -31,9 +34,10 @@ const fn listed_as(target: u64, number: u64, size: usize, argsz: bool, writes: b
 }
 
 #[rustfmt::skip]
-const LISTED: [Listed; 9] = [
+const LISTED: [Listed; 10] = [
     listed_as(CONTAINER, 100,  0, false, false),
     listed_as(CONTAINER, 101,  4, false, false),
+    listed_as(CONTAINER, 102,  4, false, false),
     listed_as(CONTAINER, 112, 16, true,  true),
     listed_as(CONTAINER, 113, 32, true,  false),
     listed_as(CONTAINER, 114, 24, true,  true),
@@ -68,6 +72,7 @@ pub fn request(
     match (target, number) {
         (CONTAINER, 100) => Ok(0),
         (CONTAINER, 101) => Ok(check_extension(buffer)),
+        (CONTAINER, 102) => set_iommu(state, buffer),
         (CONTAINER, 112) => iommu_info(buffer),
         (CONTAINER, 113) => map(state, buffer),
         (CONTAINER, 114) => unmap(state, buffer),
@@ -88,13 +93,18 @@ fn check_argsz(size: usize, buffer: &[u8]) -> Answer<()> {
     )
 }
 
-/// 1 for Type1v2 (3) alone.
+/// 1 for the IOMMU types that a container may be of.
 fn check_extension(buffer: &[u8]) -> u64 {
-    if number_at(buffer, 0, 4) == 3 {
-        1
-    } else {
-        0
-    }
+    u64::from(is_iommu_type(number_at(buffer, 0, 4)))
+}
+
+/// A container becomes of another IOMMU type only while it holds no mapping; to ask for the type that
+/// it is of is no exception.
+fn set_iommu(state: &mut State, buffer: &[u8]) -> Answer<u64> {
+    let number = number_at(buffer, 0, 4);
+    refuse_if(!is_iommu_type(number) || state.count > 0, Refusal::Flags)?;
+    state.iommu_type = number;
+    Ok(0)
 }
 
 fn iommu_info(buffer: &mut [u8]) -> Answer<u64> {
@@ -163,28 +173,48 @@ fn unmap(state: &mut State, buffer: &mut [u8]) -> Answer<u64> {
         Refusal::Unaligned,
     )?;
     refuse_if(range.end > DEVICE_LIMIT, Refusal::Range)?;
-    refuse_if(
-        state.mappings().iter().any(|m| cuts(range, m)),
-        Refusal::Cuts,
-    )?;
-    // The mappings inside lie apart below 2^48, so the sum of their sizes is at most 2^48.
-    let inside = state.mappings().iter().filter(|m| m.lies_inside(range));
-    let removed: u64 = inside.map(|m| m.size).sum();
-    remove_inside(state, range);
+    let removed = if state.iommu_type == TYPE1 {
+        unmap_type1(state, range)
+    } else {
+        unmap_type1v2(state, range)?
+    };
     put_number(buffer, 16, 8, removed);
     Ok(0)
 }
 
-/// The mappings that stay move down, in order; records from the new count on keep what they held (rule 1.17).
-fn remove_inside(state: &mut State, range: DeviceRange) {
-    let mut kept = 0;
+/// What lies inside goes, unless something lies there in part.
+fn unmap_type1v2(state: &mut State, range: DeviceRange) -> Answer<u64> {
+    refuse_if(
+        state.mappings().iter().any(|m| cuts(range, m)),
+        Refusal::Cuts,
+    )?;
+    Ok(remove(state, |m| m.lies_inside(range)))
+}
+
+/// What begins in the range goes, whole, unless something reaches into the range from before it; then
+/// nothing goes, also nothing further up.
+fn unmap_type1(state: &mut State, range: DeviceRange) -> u64 {
+    if state.mappings().iter().any(|m| m.reaches_into(range)) {
+        return 0;
+    }
+    remove(state, |m| m.begins_in(range))
+}
+
+/// Removes mappings and gives the sum of their sizes: they lie apart below 2^48, so it is at most 2^48.
+/// Those that stay move down, in order; records from the new count on keep what they held (rule 1.17).
+fn remove(state: &mut State, goes: impl Fn(&Mapping) -> bool) -> u64 {
+    let (mut kept, mut removed) = (0, 0);
     for i in 0..state.mappings().len() {
-        if !state.records[i].lies_inside(range) {
-            state.records[kept] = state.records[i];
+        let mapping = state.records[i];
+        if goes(&mapping) {
+            removed += mapping.size;
+        } else {
+            state.records[kept] = mapping;
             kept += 1;
         }
     }
     state.count = kept as u64;
+    removed
 }
 
 /// Whether the range holds some but not all of a mapping.
@@ -294,8 +324,8 @@ mod tests {
     #[test]
     fn target_and_number_choose_the_request() {
         let mut state = pages(1);
-        let on_container = [99, 102, 107, 108, 109, 110, 111, 115, 116, 0x1_0000_0064];
-        let on_device = [100, 101, 106, 110, 112, 113, 114, 0x1_0000_006b];
+        let on_container = [99, 103, 107, 108, 109, 110, 111, 115, 116, 0x1_0000_0066];
+        let on_device = [100, 101, 102, 106, 110, 112, 113, 114, 0x1_0000_006b];
         for number in on_container {
             let answer = ask(&mut state, CONTAINER, number, &mut buffer(64, &[]));
             assert_eq!(answer, refused(Refusal::NoSuchRequest), "{number}");
@@ -329,7 +359,7 @@ mod tests {
         assert_eq!(info(with(20, 0x1_0000 + 16)), refused(Refusal::ArgSize));
     }
 
-    /// Rules 3.4, 3.8 and 3.9: any buffer for 100; 1 for 3 alone, all four bytes of it.
+    /// Rules 3.4, 3.8, 3.9 and 3.24: any buffer for 100; 1 for 1 and 3 alone, all four bytes of them.
     #[test]
     fn container_100_and_101() {
         let mut state = pages(1);
@@ -340,7 +370,9 @@ mod tests {
         };
         assert_eq!(extension(3, 4), Ok(1));
         assert_eq!(extension(3, 9), Ok(1));
-        assert_eq!(extension(1, 4), Ok(0));
+        assert_eq!(extension(1, 4), Ok(1));
+        assert_eq!(extension(2, 4), Ok(0));
+        assert_eq!(extension(0x101, 4), Ok(0));
         assert_eq!(extension(0x103, 4), Ok(0));
         assert_eq!(extension(0x0300_0000, 4), Ok(0));
         assert_eq!(
@@ -595,22 +627,26 @@ mod tests {
         assert_eq!(unmap(&mut state, 0, 0, 12_288), Ok(12_288));
     }
 
+    /// Rules 3.19 and 3.25: the last check is for Type1v2 alone; under Type1 the mapping blocks.
     #[test]
     fn unmaps_checks_run_in_the_rules_order() {
-        let mut state = pages(2);
-        assert_eq!(map(&mut state, 3, 0, 0, 8_192), Ok(0));
-        let top = 0u64.wrapping_sub(4_096);
-        assert_eq!(unmap(&mut state, 0, 0, 4_096), refused(Refusal::Cuts));
-        assert_eq!(
-            unmap(&mut state, 0, 4_096, 1 << 48),
-            refused(Refusal::Range)
-        );
-        assert_eq!(unmap(&mut state, 0, top, 4_096), refused(Refusal::Range));
-        assert_eq!(unmap(&mut state, 0, top, 1), refused(Refusal::Unaligned));
-        assert_eq!(unmap(&mut state, 0, 1, top), refused(Refusal::Unaligned));
-        assert_eq!(unmap(&mut state, 0, 1, 0), refused(Refusal::Empty));
-        for flags in [1, 3, 0x100] {
-            assert_eq!(unmap(&mut state, flags, 1, 0), refused(Refusal::Flags));
+        let last = [(pages(2), refused(Refusal::Cuts)), (older_pages(2), Ok(0))];
+        for (mut state, last) in last {
+            assert_eq!(map(&mut state, 3, 0, 0, 8_192), Ok(0));
+            let top = 0u64.wrapping_sub(4_096);
+            assert_eq!(unmap(&mut state, 0, 4_096, 4_096), last);
+            assert_eq!(
+                unmap(&mut state, 0, 4_096, 1 << 48),
+                refused(Refusal::Range)
+            );
+            assert_eq!(unmap(&mut state, 0, top, 4_096), refused(Refusal::Range));
+            assert_eq!(unmap(&mut state, 0, top, 1), refused(Refusal::Unaligned));
+            assert_eq!(unmap(&mut state, 0, 1, top), refused(Refusal::Unaligned));
+            assert_eq!(unmap(&mut state, 0, 1, 0), refused(Refusal::Empty));
+            for flags in [1, 3, 0x100] {
+                assert_eq!(unmap(&mut state, flags, 1, 0), refused(Refusal::Flags));
+            }
+            assert_eq!(held(&state), [0]);
         }
     }
 
@@ -651,10 +687,108 @@ mod tests {
         assert_eq!(held(&state), []);
     }
 
+    fn set_iommu(state: &mut State, number: u64) -> Answer<u64> {
+        ask(state, CONTAINER, 102, &mut buffer(4, &[(0, 4, number)]))
+    }
+
+    /// So many pages in a container of Type1.
+    fn older_pages(count: u64) -> State {
+        let mut state = pages(count);
+        assert_eq!(set_iommu(&mut state, 1), Ok(0));
+        state
+    }
+
+    /// Rule 3.23: 1 and 3, all four bytes of them; argsz is not asked for; nothing else changes.
+    #[test]
+    fn an_empty_container_takes_either_iommu_type() {
+        let mut state = pages(1);
+        for number in [1, 1, 3, 3, 1] {
+            assert_eq!(set_iommu(&mut state, number), Ok(0));
+            let expected = State {
+                iommu_type: number,
+                ..pages(1)
+            };
+            assert_eq!(state, expected);
+        }
+        for number in [0, 2, 4, 0x101, 0x103, 0x0100_0001, 0x0300_0000, 0x8000_0003] {
+            assert_eq!(set_iommu(&mut state, number), refused(Refusal::Flags));
+            assert_eq!(state.iommu_type, 1, "{number}");
+        }
+        let mut long = buffer(9, &[(0, 4, 3)]);
+        assert_eq!(ask(&mut state, CONTAINER, 102, &mut long), Ok(0));
+        assert_eq!(long, buffer(9, &[(0, 4, 3)]));
+        assert_eq!(
+            ask(&mut state, CONTAINER, 102, &mut [1, 0, 0]),
+            refused(Refusal::Short)
+        );
+    }
+
+    /// Rule 3.23: also with the number that it has. What counts is the count, not the records.
+    #[test]
+    fn a_container_with_a_mapping_keeps_its_iommu_type() {
+        for number in [1, 3] {
+            let mut state = pages(1);
+            assert_eq!(set_iommu(&mut state, number), Ok(0));
+            assert_eq!(map(&mut state, 3, 0, 0, 4_096), Ok(0));
+            let before = state.clone();
+            for asked in [1, 3, 2] {
+                assert_eq!(set_iommu(&mut state, asked), refused(Refusal::Flags));
+            }
+            assert_eq!(state, before);
+            assert_eq!(unmap(&mut state, 0, 0, 4_096), Ok(4_096));
+            assert_eq!(set_iommu(&mut state, 4 - number), Ok(0));
+        }
+    }
+
+    /// Rule 3.25: [0, 12288) begins before each of these ranges and holds its start; nothing goes, also
+    /// not [12288, 16384), which lies inside some.
+    #[test]
+    fn a_mapping_that_reaches_into_the_range_blocks_an_unmap_under_type1() {
+        let mut state = older_pages(3);
+        assert_eq!(map(&mut state, 3, 0, 0, 12_288), Ok(0));
+        assert_eq!(map(&mut state, 3, 0, 12_288, 4_096), Ok(0));
+        let before = state.clone();
+        for (device, size) in [
+            (4_096, 4_096),   // inside the first
+            (8_192, 4_096),   // up to its end
+            (4_096, 12_288),  // to the end of the second
+            (4_096, 1 << 40), // and beyond
+        ] {
+            assert_eq!(unmap(&mut state, 0, device, size), Ok(0), "{device}");
+            assert_eq!(state, before);
+        }
+    }
+
+    /// Rule 3.25: what begins in the range goes whole. A mapping that begins at the range's start does
+    /// not begin before it, one that ends there does not hold it, and one that begins at the range's end
+    /// does not begin in it.
+    #[test]
+    fn an_unmap_under_type1_takes_what_begins_in_its_range() {
+        let mut full = older_pages(2);
+        for (device, size) in [(0, 4_096), (4_096, 8_192), (16_384, 4_096), (20_480, 8_192)] {
+            assert_eq!(map(&mut full, 3, 0, device, size), Ok(0));
+        }
+        let cases: [(u64, u64, u64, &[u64]); 8] = [
+            (4_096, 4_096, 8_192, &[0, 16_384, 20_480]),
+            (4_096, 8_192, 8_192, &[0, 16_384, 20_480]),
+            (0, 8_192, 12_288, &[16_384, 20_480]),
+            (12_288, 4_096, 0, &[0, 4_096, 16_384, 20_480]),
+            (12_288, 8_192, 4_096, &[0, 4_096, 20_480]),
+            (12_288, 12_288, 12_288, &[0, 4_096]),
+            (28_672, 4_096, 0, &[0, 4_096, 16_384, 20_480]),
+            (0, 1 << 48, 24_576, &[]),
+        ];
+        for (device, size, removed, stay) in cases {
+            let mut state = full.clone();
+            assert_eq!(unmap(&mut state, 0, device, size), Ok(removed), "{device}");
+            assert_eq!(held(&state), stay, "{device}");
+        }
+    }
+
     /// Rule 3.16: it resets the card, not the bench.
     #[test]
-    fn reset_keeps_the_running_state_and_the_table() {
-        let mut state = pages(1);
+    fn reset_keeps_the_running_state_the_table_and_the_iommu_type() {
+        let mut state = older_pages(1);
         assert_eq!(map(&mut state, 3, 0, 0, 4_096), Ok(0));
         assert_eq!(set_register(&mut state, 0x103, 0, &[15]), Ok(0));
         assert_eq!(set_register(&mut state, 0x102, 16, &[1, 2]), Ok(0));

@@ -45,7 +45,7 @@ module _ {M : Type 1} (𝓤 : URA M) (H : Heap 𝓤) (A : Atoms 𝓤) (W : Given
       ⨟ bundles bytes (asMut bytes) 6 7 2 lentBytesHere (λ x. x) (oFld 3 (field 1 ∷ []) (tyInt w64) 8 (λ v. lenV (v .0))) (as-is 𝓤 H A (msptr bytes lentBytesHere 2)) (empty W (sliceTy lentBytesHere)) (reads-owed-len 𝓤 H A W bytes (lentBytesAt 1) 1 2 (lease (κs .1 .0) (qs .1 .0)) 8 refl, refl) refl refl (λ b o k. tt)
       ⨟ calls contracts.answered answered (record { pos = 2; st = []; d = 0; at = λ x. x }, (record { pos = 7; ty = lentBytesHere; ref = λ x. x }, tt)) 0 (2 ∷ []) ((yields admission W, refl), (as-is 𝓤 H A (mslice bytes lentBytesHere 2), reads-mslice 𝓤 H A W bytes lentBytesHere 2, refl, tt)) (empty W (spelled outcome)) (tt, tt) refl
       ⨟ ends 2 refl ⨾ back bytes 7 3 1 2 (lentBytesAt 1) lentBytesHere (lease (κs .1 .0) (qs .1 .0)) (λ x. x) (λ x. x) (as-is 𝓤 H A (msleft bytes lentBytesHere)) (as-is 𝓤 H A (mslice-owed bytes (lentBytesAt 1) 1 2 (lease (κs .1 .0) (qs .1 .0)))) refl refl ⨾ forgets 2 refl ⨾ gone 2 (spelled admission) (room admission W) ⨾ done))
-      (λ κs qs a good ask bs. ((λ _. tt), λ r-resets. ((λ yes4. ((λ _. tt), λ r-reset. (tt, λ _. (refl, ((λ _. ask), λ r-answered. (refl, λ l-r-answered1. ((refl, (tt, (fix-len (a .1 .1 .0 .ptr) (a .1 .1 .0 .name) (r-answered .2 .1 .0) (a .1 .1 .0 .now) l-r-answered1, tt))), λ rs map unmap. resets-all (a .1 .0) (a .1 .1 .0 .now) (a .0 .now) rs (r-answered .1) (r-answered .2 .1 .0) (r-answered .5) (r-resets .5) yes4 (r-reset .1) (r-reset .5)))))))), λ no4. λ _. (refl, ((λ _. ask), λ r-answered. (refl, λ l-r-answered1. ((refl, (tt, (fix-len (a .1 .1 .0 .ptr) (a .1 .1 .0 .name) (r-answered .2 .1 .0) (a .1 .1 .0 .now) l-r-answered1, tt))), λ rs map unmap. answers (a .1 .0) (a .1 .1 .0 .now) (a .0 .now) rs (r-answered .1) (r-answered .2 .1 .0) (r-answered .5) (r-resets .5) no4 map unmap)))))))
+      (λ κs qs a good ask bs. ((λ _. tt), λ r-resets. ((λ yes4. ((λ _. tt), λ r-reset. (tt, λ _. (refl, ((λ _. ask), λ r-answered. (refl, λ l-r-answered1. ((refl, (tt, (fix-len (a .1 .1 .0 .ptr) (a .1 .1 .0 .name) (r-answered .2 .1 .0) (a .1 .1 .0 .now) l-r-answered1, tt))), λ rs set map unmap. resets-all (a .1 .0) (a .1 .1 .0 .now) (a .0 .now) rs (r-answered .1) (r-answered .2 .1 .0) (r-answered .5) (r-resets .5) yes4 (r-reset .1) (r-reset .5)))))))), λ no4. λ _. (refl, ((λ _. ask), λ r-answered. (refl, λ l-r-answered1. ((refl, (tt, (fix-len (a .1 .1 .0 .ptr) (a .1 .1 .0 .name) (r-answered .2 .1 .0) (a .1 .1 .0 .now) l-r-answered1, tt))), λ rs set map unmap. answers (a .1 .0) (a .1 .1 .0 .now) (a .0 .now) rs (r-answered .1) (r-answered .2 .1 .0) (r-answered .5) (r-resets .5) no4 set map unmap)))))))
 
 pub answer-request-spec : {M : Type 1} → stated.statement M
 unfolding code.routine tablesOf

@@ -22,8 +22,8 @@ use Rattle.capi.proofs.unmapped.Met as unmapped-thm
 use Rattle.vfio.proofs.unmaps.Symbol as unmaps-def
 use Rattle.vfio.proofs.unmaps.Reads as unmaps-reads
 use Rattle.vfio.proofs.unmaps.Met as unmaps-thm
-use Rattle.capi.proofs.answer_request.Symbol as answer-request-def
-use Rattle.capi.proofs.answer_request.Met as answer-request-thm
+use Rattle.capi.proofs.set_or_answer.Symbol as set-or-answer-def
+use Rattle.capi.proofs.set_or_answer.Met as set-or-answer-thm
 use Rattle.vfio.proofs.unmap_dma.Symbol as unmap-dma-def
 use Rattle.vfio.proofs.unmap_dma.Met as unmap-dma-thm
 use Rattle.capi.proofs.unmap_or_answer.Key.{name}
@@ -35,7 +35,7 @@ abbrev xs : List Ty
 xs = tyBool ∷ (spelled unmap) ∷ (lentRefHere state) ∷ (lentHere mapping) ∷ (sliceTy (lentHere mapping)) ∷ lentBytesHere ∷ (sliceTy lentBytesHere) ∷ (lentRefHere state) ∷ lentBytesHere ∷ (sliceTy lentBytesHere) ∷ []
 
 module _ {M : Type 1} (𝓤 : URA M) (H : Heap 𝓤) (A : Atoms 𝓤) (W : Given 𝓤 H A) (𝓣 : Tables 𝓤 H)
-    (unmapped : Knows 𝓤 H A W 𝓣 contracts.unmapped unmapped-def.name) (unmaps : Knows 𝓤 H A W 𝓣 contracts.unmaps unmaps-def.name) (answer-request : Knows 𝓤 H A W 𝓣 contracts.answer-request answer-request-def.name) (unmap-dma : Knows 𝓤 H A W 𝓣 requests.unmap-dma unmap-dma-def.name) where
+    (unmapped : Knows 𝓤 H A W 𝓣 contracts.unmapped unmapped-def.name) (unmaps : Knows 𝓤 H A W 𝓣 contracts.unmaps unmaps-def.name) (set-or-answer : Knows 𝓤 H A W 𝓣 contracts.set-or-answer set-or-answer-def.name) (unmap-dma : Knows 𝓤 H A W 𝓣 requests.unmap-dma unmap-dma-def.name) where
   derived : Derived 𝓤 H A W 𝓣 contracts.unmap-or-answer code.function
   derived =
       lending-derives 𝓤 H A W 𝓣 contracts.unmap-or-answer 5 xs (valueLocal ∷ valueLocal ∷ valueLocal ∷ valueLocal ∷ valueLocal ∷ valueLocal ∷ valueLocal ∷ valueLocal ∷ valueLocal ∷ valueLocal ∷ valueLocal ∷ valueLocal ∷ valueLocal ∷ valueLocal ∷ valueLocal ∷ []) (code.function .body) _ (λ κs qs bs.
@@ -53,9 +53,9 @@ module _ {M : Type 1} (𝓤 : URA M) (H : Heap 𝓤) (A : Atoms 𝓤) (W : Given
       (begins 6 (tt, (tt, (tt, (tt, (tt, (tt, (tt, (tt, (tt, (tt, (tt, (tt, (tt, (tt, (tt, tt))))))))))))))) ⨾ begins 7 (tt, (tt, (tt, (tt, (tt, (tt, (tt, (tt, (tt, (tt, (tt, (tt, (tt, (tt, (tt, tt))))))))))))))) ⨾ lendsOne state 1 12 0 6 (lentRefAt state 0) (lentRefHere state) (lease (κs .0) (qs .0)) (λ x. x) (as-is 𝓤 H A (mref (row state) (lentRefAt state 0) 0)) (empty W (lentRefHere state)) refl tt refl refl (λ b o. tt)
       ⨟ lends bytes 4 13 2 7 (lentBytesAt 2) lentBytesHere (lease (κs .1 .1 .0) (qs .1 .1 .0)) (λ x. x) (as-is 𝓤 H A (mslice bytes (lentBytesAt 2) 2)) (empty W lentBytesHere) refl tt refl refl refl (λ b o. tt)
       ⨟ bundles bytes (asMut bytes) 13 14 7 lentBytesHere (λ x. x) (oFld 4 (field 1 ∷ []) (tyInt w64) 8 (λ v. lenV (v .0))) (as-is 𝓤 H A (msptr bytes lentBytesHere 7)) (empty W (sliceTy lentBytesHere)) (reads-owed-len 𝓤 H A W bytes (lentBytesAt 2) 2 7 (lease (κs .1 .1 .0) (qs .1 .1 .0)) 8 refl, refl) refl refl (λ b o k. tt)
-      ⨟ calls contracts.answer-request answer-request (record { pos = 12; ty = (lentRefHere state); ref = λ x. x }, (record { pos = 3; st = []; d = 0; at = λ x. x }, (record { pos = 14; ty = lentBytesHere; ref = λ x. x }, tt))) 0 (6 ∷ 7 ∷ []) (as-is 𝓤 H A (mref (row state) (lentRefHere state) 6), reads-mref 𝓤 H A W (row state) (lentRefHere state) 6, refl, ((yields admission W, refl), (as-is 𝓤 H A (mslice bytes lentBytesHere 7), reads-mslice 𝓤 H A W bytes lentBytesHere 7, refl, tt))) (empty W (spelled outcome)) (tt, (tt, tt)) refl
+      ⨟ calls contracts.set-or-answer set-or-answer (record { pos = 12; ty = (lentRefHere state); ref = λ x. x }, (record { pos = 3; st = []; d = 0; at = λ x. x }, (record { pos = 14; ty = lentBytesHere; ref = λ x. x }, tt))) 0 (6 ∷ 7 ∷ []) (as-is 𝓤 H A (mref (row state) (lentRefHere state) 6), reads-mref 𝓤 H A W (row state) (lentRefHere state) 6, refl, ((yields admission W, refl), (as-is 𝓤 H A (mslice bytes lentBytesHere 7), reads-mslice 𝓤 H A W bytes lentBytesHere 7, refl, tt))) (empty W (spelled outcome)) (tt, (tt, tt)) refl
       ⨟ ends 6 refl ⨾ backOne state 12 1 0 6 (lentRefAt state 0) (lentRefHere state) (lease (κs .0) (qs .0)) (λ x. x) (λ x. x) (as-is 𝓤 H A (mleft (row state) (lentRefHere state))) (as-is 𝓤 H A (mref-owed (row state) (lentRefAt state 0) 0 6 (lease (κs .0) (qs .0)))) refl refl ⨾ forgets 6 refl ⨾ ends 7 refl ⨾ back bytes 14 4 2 7 (lentBytesAt 2) lentBytesHere (lease (κs .1 .1 .0) (qs .1 .1 .0)) (λ x. x) (λ x. x) (as-is 𝓤 H A (msleft bytes lentBytesHere)) (as-is 𝓤 H A (mslice-owed bytes (lentBytesAt 2) 2 7 (lease (κs .1 .1 .0) (qs .1 .1 .0)))) refl refl ⨾ forgets 7 refl ⨾ gone 3 (spelled admission) (room admission W) ⨾ done))
-      (λ κs qs a good ask bs. ((λ _. tt), λ r-unmaps. ((λ yes5. λ _. λ _. (refl, λ _. (refl, ((λ _. table-asks (a .1 .1 .0) (a .1 .1 .1 .0 .now) (a .0 .now) (a .1 .0 .now) unmapIndex (r-unmaps .5) ask yes5), λ r-unmap-dma. (refl, (refl, λ l-r-unmap-dma1. (refl, λ l-r-unmap-dma2. ((λ _. tt), λ r-unmapped. ((refl, (fix-len (a .1 .0 .ptr) (a .1 .0 .name) (r-unmap-dma .2 .1 .0) (a .1 .0 .now) l-r-unmap-dma1, (tt, (fix-len (a .1 .1 .1 .0 .ptr) (a .1 .1 .1 .0 .name) (r-unmap-dma .2 .1 .1 .0) (a .1 .1 .1 .0 .now) l-r-unmap-dma2, tt)))), λ map. handles (a .1 .1 .0) (a .1 .1 .1 .0 .now) (a .0 .now) (a .1 .0 .now) unmapIndex (r-unmaps .5) yes5 unmapDma refl (settle (r-unmap-dma .1 .verdict) (value 0)) (r-unmap-dma .2 .1 .1 .0) (r-unmap-dma .2 .0) (r-unmap-dma .2 .1 .0) (r-unmap-dma .5) (r-unmapped .1) (r-unmapped .5)))))))))), λ no5. λ _. λ _. (refl, ((λ _. reply-asks (a .1 .1 .0) (a .1 .1 .1 .0 .now) (a .0 .now) (a .1 .0 .now) ask), λ r-answer-request. (refl, (refl, λ l-r-answer-request2. ((refl, (refl, (tt, (fix-len (a .1 .1 .1 .0 .ptr) (a .1 .1 .1 .0 .name) (r-answer-request .2 .1 .1 .0) (a .1 .1 .1 .0 .now) l-r-answer-request2, tt)))), λ map. r-answer-request .5 (a .1 .0 .now) map (is-not (a .1 .1 .0) (a .1 .1 .1 .0 .now) (a .0 .now) (a .1 .0 .now) unmapIndex (r-unmaps .5) no5)))))))))
+      (λ κs qs a good ask bs. ((λ _. tt), λ r-unmaps. ((λ yes5. λ _. λ _. (refl, λ _. (refl, ((λ _. table-asks (a .1 .1 .0) (a .1 .1 .1 .0 .now) (a .0 .now) (a .1 .0 .now) unmapIndex (r-unmaps .5) ask yes5), λ r-unmap-dma. (refl, (refl, λ l-r-unmap-dma1. (refl, λ l-r-unmap-dma2. ((λ _. tt), λ r-unmapped. ((refl, (fix-len (a .1 .0 .ptr) (a .1 .0 .name) (r-unmap-dma .2 .1 .0) (a .1 .0 .now) l-r-unmap-dma1, (tt, (fix-len (a .1 .1 .1 .0 .ptr) (a .1 .1 .1 .0 .name) (r-unmap-dma .2 .1 .1 .0) (a .1 .1 .1 .0 .now) l-r-unmap-dma2, tt)))), λ map. handles (a .1 .1 .0) (a .1 .1 .1 .0 .now) (a .0 .now) (a .1 .0 .now) unmapIndex (r-unmaps .5) yes5 unmapDma refl (settle (r-unmap-dma .1 .verdict) (value 0)) (r-unmap-dma .2 .1 .1 .0) (r-unmap-dma .2 .0) (r-unmap-dma .2 .1 .0) (r-unmap-dma .5) (r-unmapped .1) (r-unmapped .5)))))))))), λ no5. λ _. λ _. (refl, ((λ _. reply-asks (a .1 .1 .0) (a .1 .1 .1 .0 .now) (a .0 .now) (a .1 .0 .now) ask), λ r-set-or-answer. (refl, (refl, λ l-r-set-or-answer2. ((refl, (refl, (tt, (fix-len (a .1 .1 .1 .0 .ptr) (a .1 .1 .1 .0 .name) (r-set-or-answer .2 .1 .1 .0) (a .1 .1 .1 .0 .now) l-r-set-or-answer2, tt)))), λ map. r-set-or-answer .5 (a .1 .0 .now) map (is-not (a .1 .1 .0) (a .1 .1 .1 .0 .now) (a .0 .now) (a .1 .0 .now) unmapIndex (r-unmaps .5) no5)))))))))
 
 pub unmap-or-answer-spec : {M : Type 1} → stated.statement M
 unfolding code.routine tablesOf
@@ -65,5 +65,5 @@ unmap-or-answer-spec {M} 𝓤 H 𝓜 𝓖 𝓡 =
     (derived 𝓤 H (𝓖 .A) (givenOf 𝓤 H 𝓜 𝓖) (Over 𝓤 H 𝓜 𝓖 𝓡 code.env)
     (unmapped-reads.known w code.env unmapped-def.name unmapped-def.routine code.calls-capi·unmapped (unmapped-thm.met 𝓤 H 𝓜 𝓖 𝓡))
     (unmaps-reads.known w code.env unmaps-def.name unmaps-def.routine code.calls-vfio·unmaps (unmaps-thm.met 𝓤 H 𝓜 𝓖 𝓡))
-    (knows contracts.answer-request w code.env answer-request-def.name answer-request-def.routine code.calls-capi·answer-request (answer-request-thm.met 𝓤 H 𝓜 𝓖 𝓡))
+    (knows contracts.set-or-answer w code.env set-or-answer-def.name set-or-answer-def.routine code.calls-capi·set-or-answer (set-or-answer-thm.met 𝓤 H 𝓜 𝓖 𝓡))
     (knows requests.unmap-dma w code.env unmap-dma-def.name unmap-dma-def.routine code.calls-vfio·unmap-dma (unmap-dma-thm.met 𝓤 H 𝓜 𝓖 𝓡)))

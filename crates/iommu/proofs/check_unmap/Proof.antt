@@ -1,19 +1,19 @@
 -- `iommu::check_unmap` meets its contract: at each return the tests on the way decide the list of checks.
-use mathlib.Core.Path.{_≡_, sym, _∙_}
-use mathlib.Core.Bool.{true, false}
+use mathlib.Core.Path.{_≡_}
+use mathlib.Core.Bool.{true, false, not}
 use mathlib.Core.List.{List}
 use lib.Dec.{eqb}
 use borrow.Author.Needs.{needs}
 use borrow.Author.Tests.{eq-eqb, ne-eqb}
 use Rattle.answer.specs.Codes.{Cuts}
-use Rattle.answer.specs.Tests.{_and_, _or_}
+use Rattle.answer.specs.Tests.{_and_, pick}
 use Rattle.answer.specs.Checks.{_then_, _when_, _unless_}
 use Rattle.answer.proofs.Tests.{found-false, found-true}
 use Rattle.address.specs.Address.{aligned, inDeviceRange}
 use Rattle.iommu.specs.declared.Mapping.{Mapping}
-use Rattle.iommu.specs.Table.{cuts, sticksOut}
-use Rattle.iommu.specs.Requests.{unmapChecks, endOf}
-use Rattle.iommu.proofs.Requests.{cuts-found, removes-found, unmaps-refused, unmaps-removing}
+use Rattle.iommu.specs.Table.{type1, cuts, removed}
+use Rattle.iommu.specs.Requests.{unmapChecks}
+use Rattle.iommu.proofs.Requests.{plans-refused}
 use Rattle.iommu.proofs.check_unmap.Statement.{statement}
 use Rattle.iommu.proofs.check_unmap.Tie as tie
 
@@ -34,7 +34,7 @@ in-bounds : (c : tie.Else4) → inDeviceRange (start c .args .d) (start c .args 
 in-bounds c = found-true (c .before .in-device-range .ensures) (c .if4 .left)
 
 -- behind the first four checks the mappings decide
-by-table : (c : tie.Else4) (ms : List Mapping) → let a = start c .args in unmapChecks ms (a .flags) (a .d) (a .n) ≡ (Cuts when cuts (a .d) (a .n) ms)
+by-table : (c : tie.Else4) (ms : List Mapping) → let a = start c .args in unmapChecks (a .kind) ms (a .flags) (a .d) (a .n) ≡ (Cuts when not (eqb (a .kind) type1) and cuts (a .d) (a .n) ms)
 unfolding unmapChecks _then_ _when_ _unless_
 by-table c ms =
     let d = c .before .before in
@@ -53,85 +53,56 @@ refused-unmap-requires-3 c κs = search needs
 refused-unmap-requires-4 : tie.Need-refused-unmap-requires-4
 refused-unmap-requires-4 c κs = search needs
 
-refused-unmap-requires-5 : tie.Need-refused-unmap-requires-5
-refused-unmap-requires-5 c κs = search needs
-
-refused-unmap-requires-6 : tie.Need-refused-unmap-requires-6
-refused-unmap-requires-6 c κs = search needs
-
 aligned-range-requires : tie.Need-aligned-range-requires
 aligned-range-requires c κs = search needs
 
 in-device-range-requires : tie.Need-in-device-range-requires
 in-device-range-requires c κs = search needs
 
-sticks-out-requires : tie.Need-sticks-out-requires
-sticks-out-requires c κs = search needs
+remove-beginning-requires : tie.Need-remove-beginning-requires
+remove-beginning-requires c κs = search needs
 
-sticks-out-requires-2 : tie.Need-sticks-out-requires-2
-sticks-out-requires-2 c κs = search needs
-
-end-of-requires : tie.Need-end-of-requires
-end-of-requires c κs = search needs
-
-removing-requires : tie.Need-removing-requires
-removing-requires c κs = search needs
+remove-inside-requires : tie.Need-remove-inside-requires
+remove-inside-requires c κs = search needs
 
 returns : tie.Need-returns
 unfolding unmapChecks _then_ _unless_
-returns c ms sound n p ex q ey = unmaps-refused ms _ _ _ _ _ (rw (ne-eqb (c .before .before .args .flags) 0 (c .before .if1 .taken))) (c .refused-unmap .ensures)
+returns c ms h = plans-refused (rw (ne-eqb (c .before .before .args .flags) 0 (c .before .if1 .taken))) (c .refused-unmap .ensures)
 
 returns-2 : tie.Need-returns-2
 unfolding unmapChecks _then_ _when_ _unless_
-returns-2 c ms sound n p ex q ey =
+returns-2 c ms h =
     let t = c .before in
-    unmaps-refused ms _ _ _ _ _ (rw (allowed (t .before), eq-eqb (t .before .before .args .n) 0 (t .if2 .taken))) (c .refused-unmap2 .ensures)
+    plans-refused (rw (allowed (t .before), eq-eqb (t .before .before .args .n) 0 (t .if2 .taken))) (c .refused-unmap2 .ensures)
 
 returns-3 : tie.Need-returns-3
 unfolding unmapChecks _then_ _when_ _unless_
-returns-3 c ms sound n p ex q ey =
+returns-3 c ms h =
     let t = c .before in
     let e = t .before .before in
-    unmaps-refused ms _ _ _ _ _ (rw (allowed (e .before), filled e, found-false (t .before .aligned-range .ensures) (t .if3 .taken))) (c .refused-unmap3 .ensures)
+    plans-refused (rw (allowed (e .before), filled e, found-false (t .before .aligned-range .ensures) (t .if3 .taken))) (c .refused-unmap3 .ensures)
 
 returns-4 : tie.Need-returns-4
 unfolding unmapChecks _then_ _when_ _unless_
-returns-4 c ms sound n p ex q ey =
+returns-4 c ms h =
     let t = c .before in
     let d = t .before .before in
     let e = d .before .before in
-    unmaps-refused ms _ _ _ _ _ (rw (allowed (e .before), filled e, on-pages d, found-false (t .before .in-device-range .ensures) (t .if4 .taken))) (c .refused-unmap4 .ensures)
+    plans-refused (rw (allowed (e .before), filled e, on-pages d, found-false (t .before .in-device-range .ensures) (t .if4 .taken))) (c .refused-unmap4 .ensures)
 
 returns-5 : tie.Need-returns-5
-unfolding _when_ _or_
-returns-5 c ms sound n p ex q ey =
-    let t = c .before in
-    let l = t .before .before in
-    let a = start l .args in
-    unmaps-refused ms _ _ _ _ _ (rw (by-table l ms, cuts-found _ ms (a .d) (a .n) _ _ _ _ (a .x) (a .y) sound (in-bounds l) p ex q ey, sym (t .before .sticks-out .ensures) ∙ t .if5 .taken)) (c .refused-unmap5 .ensures)
-
--- at the end of the range
-sticks : (c : tie.After-sticks-out2) → let a = start (c .before .before .before .before) .args in c .sticks-out2 .result ≡ sticksOut (a .y) (endOf (a .d) (a .n))
-sticks c = rw (c .before .end-of .ensures) at (c .sticks-out2 .ensures)
+unfolding removed _and_ _when_ pick
+returns-5 c ms h =
+    let l = c .before .before in
+    let e = eq-eqb (start l .args .kind) type1 (c .before .if5 .taken) in
+    rw (by-table l ms, e) (c .remove-beginning .ensures ms (in-bounds l) h)
 
 returns-6 : tie.Need-returns-6
-unfolding _when_ _or_
-returns-6 c ms sound n p ex q ey =
-    let t = c .before in
-    let f = t .before .before .before in
-    let l = f .before .before in
-    let a = start l .args in
-    unmaps-refused ms _ _ _ _ _ (rw (by-table l ms, cuts-found _ ms (a .d) (a .n) _ _ _ _ (a .x) (a .y) sound (in-bounds l) p ex q ey, sym (f .before .sticks-out .ensures) ∙ f .if5 .left, sym (sticks (t .before)) ∙ t .if6 .taken)) (c .refused-unmap6 .ensures)
-
-returns-7 : tie.Need-returns-7
-unfolding _when_ _or_
-returns-7 c ms sound n p ex q ey =
-    let t = c .before in
-    let f = t .before .before .before in
-    let l = f .before .before in
-    let a = start l .args in
-    let none : cuts (a .d) (a .n) ms ≡ false = cuts-found _ ms (a .d) (a .n) _ _ _ _ (a .x) (a .y) sound (in-bounds l) p ex q ey ∙ rw (sym (f .before .sticks-out .ensures) ∙ f .if5 .left, sym (sticks (t .before)) ∙ t .if6 .left) in
-    unmaps-removing ms _ _ _ _ (a .count) _ _ (rw (by-table l ms, none)) n (removes-found _ ms (a .d) (a .n) _ _ _ _ (a .x) (a .y) sound (in-bounds l) p ex q ey none) (c .removing .ensures)
+unfolding removed _and_ pick
+returns-6 c ms h =
+    let l = c .before .before in
+    let e = ne-eqb (start l .args .kind) type1 (c .before .if5 .left) in
+    rw (by-table l ms, e) (c .remove-inside .ensures ms (in-bounds l) h)
 
 pub check-unmap-spec : {M : Type 1} → statement M
 check-unmap-spec =
@@ -147,12 +118,7 @@ check-unmap-spec =
     in-device-range-requires
     refused-unmap-requires-4
     returns-4
-    sticks-out-requires
-    refused-unmap-requires-5
+    remove-beginning-requires
     returns-5
-    end-of-requires
-    sticks-out-requires-2
-    refused-unmap-requires-6
-    returns-6
-    removing-requires
-    returns-7)
+    remove-inside-requires
+    returns-6)

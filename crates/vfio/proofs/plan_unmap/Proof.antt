@@ -1,5 +1,6 @@
 -- `vfio::plan_unmap` meets its contract: a derivation by hand.
 use mathlib.Core.List.{List, [], _∷_}
+use mir.Syntax.{w32}
 use Rattle.walks.proofs.Walk.{URA, Ty, valueLocal, w64, tyInt, Heap, Tables, Atoms, Given, givenOf, tablesOf, Over, World, vAt, spares-sslice, sInt, reads-sslice, Derived, Knows, closes, knows, _⨟_, _⨾_, done, calls, gone, empty, number, used, derives, row, spelled, sharedAt, yields, room, ends}
 use mathlib.Core.Path.{_≡_, refl, sym, _∙_, ap}
 use Rattle.iommu.proofs.Records.{mapping, device, search}
@@ -35,18 +36,18 @@ module _ {M : Type 1} (𝓤 : URA M) (H : Heap 𝓤) (A : Atoms 𝓤) (W : Given
     (place-of : Knows 𝓤 H A W 𝓣 contracts.place-of place-of-def.name) (start-of : Knows 𝓤 H A W 𝓣 contracts.start-of start-of-def.name) (past : Knows 𝓤 H A W 𝓣 contracts.past past-def.name) (planned-unmap : Knows 𝓤 H A W 𝓣 contracts.planned-unmap planned-unmap-def.name) (find : Knows 𝓤 H A W 𝓣 below.find find-def.name) (get : Knows 𝓤 H A W 𝓣 below.get get-def.name) where
   derived : Derived 𝓤 H A W 𝓣 contracts.plan-unmap code.function
   derived =
-      derives 𝓤 H A W 𝓣 contracts.plan-unmap xs (valueLocal ∷ valueLocal ∷ valueLocal ∷ valueLocal ∷ valueLocal ∷ valueLocal ∷ valueLocal ∷ valueLocal ∷ valueLocal ∷ valueLocal ∷ []) (code.function .body) _ (λ κs qs bs.
-      calls contracts.start-of start-of (record { pos = 3; st = []; d = 0; at = λ x. x }, tt) 8 [] ((yields range W, refl), tt) (empty W (spelled device)) tt refl
-      ⨟ calls below.find find (record { pos = 1; ty = (sharedAt mapping 0); ref = λ x. x }, (vAt 2 (λ x. x), (record { pos = 8; st = []; d = 0; at = λ x. x }, tt))) 4 (0 ∷ []) (spares-sslice 𝓤 H A W (row mapping) (sharedAt mapping 0) 0, reads-sslice 𝓤 H A W (row mapping) (sharedAt mapping 0) 0, refl, ((number W w64, refl), ((yields device W, refl), tt))) (empty W (spelled search)) (tt, tt) refl
-      ⨟ calls contracts.place-of place-of (record { pos = 4; st = []; d = 0; at = λ x. x }, tt) 9 [] ((yields search W, refl), tt) (empty W (tyInt w64)) tt refl
-      ⨟ calls below.get get (record { pos = 1; ty = (sharedAt mapping 0); ref = λ x. x }, (vAt 2 (λ x. x), (vAt 9 (λ x. x), tt))) 5 (0 ∷ []) (spares-sslice 𝓤 H A W (row mapping) (sharedAt mapping 0) 0, reads-sslice 𝓤 H A W (row mapping) (sharedAt mapping 0) 0, refl, ((number W w64, refl), ((number W w64, refl), tt))) (empty W (spelled mapping)) (tt, tt) refl
-      ⨟ calls contracts.past past (record { pos = 3; st = []; d = 0; at = λ x. x }, tt) 8 [] ((yields range W, refl), tt) (room device W) tt refl
-      ⨟ calls below.find find (record { pos = 1; ty = (sharedAt mapping 0); ref = λ x. x }, (vAt 2 (λ x. x), (record { pos = 8; st = []; d = 0; at = λ x. x }, tt))) 6 (0 ∷ []) (spares-sslice 𝓤 H A W (row mapping) (sharedAt mapping 0) 0, reads-sslice 𝓤 H A W (row mapping) (sharedAt mapping 0) 0, refl, ((number W w64, refl), ((yields device W, refl), tt))) (empty W (spelled search)) (tt, tt) refl
-      ⨟ calls contracts.place-of place-of (record { pos = 6; st = []; d = 0; at = λ x. x }, tt) 9 [] ((yields search W, refl), tt) (used W (sInt w64)) tt refl
-      ⨟ calls below.get get (record { pos = 1; ty = (sharedAt mapping 0); ref = λ x. x }, (vAt 2 (λ x. x), (vAt 9 (λ x. x), tt))) 7 (0 ∷ []) (spares-sslice 𝓤 H A W (row mapping) (sharedAt mapping 0) 0, reads-sslice 𝓤 H A W (row mapping) (sharedAt mapping 0) 0, refl, ((number W w64, refl), ((number W w64, refl), tt))) (empty W (spelled mapping)) (tt, tt) refl
-      ⨟ calls contracts.planned-unmap planned-unmap (record { pos = 3; st = []; d = 0; at = λ x. x }, (vAt 2 (λ x. x), (record { pos = 4; st = []; d = 0; at = λ x. x }, (record { pos = 5; st = []; d = 0; at = λ x. x }, (record { pos = 6; st = []; d = 0; at = λ x. x }, (record { pos = 7; st = []; d = 0; at = λ x. x }, tt)))))) 0 [] ((yields range W, refl), ((number W w64, refl), ((yields search W, refl), ((yields mapping W, refl), ((yields search W, refl), ((yields mapping W, refl), tt)))))) (empty W (spelled unmap)) tt refl
-      ⨟ gone 2 (tyInt w64) (used W (sInt w64)) ⨾ gone 3 (spelled range) (room range W) ⨾ gone 4 (spelled search) (room search W) ⨾ gone 5 (spelled mapping) (room mapping W) ⨾ gone 6 (spelled search) (room search W) ⨾ gone 7 (spelled mapping) (room mapping W) ⨾ gone 8 (spelled device) (room device W) ⨾ gone 9 (tyInt w64) (used W (sInt w64)) ⨾ done)
-      (λ κs qs a good ask bs. ((λ _. tt), λ r-start-of. ((λ _. ask), λ r-find. ((λ _. tt), λ r-place-of. ((λ _. ask .fits), λ r-get. ((λ _. tt), λ r-past. ((λ _. ask), λ r-find2. ((λ _. tt), λ r-place-of2. ((λ _. ask .fits), λ r-get2. ((λ _. tt), λ r-planned-unmap. ((refl, (tt, (tt, tt))), unmap-planned (a .0 .now) (a .1 .0) (a .1 .1 .0) ask (r-start-of .1) (r-start-of .5) (r-find .1) (r-find .5 .1) (r-place-of .1) (r-place-of .5) (r-get .1) (r-get .5) (r-past .1) (r-past .5) (r-find2 .1) (r-find2 .5 .1) (r-place-of2 .1) (r-place-of2 .5) (r-get2 .1) (r-get2 .5) (r-planned-unmap .1) (r-planned-unmap .5))))))))))))
+      derives 𝓤 H A W 𝓣 contracts.plan-unmap xs (valueLocal ∷ valueLocal ∷ valueLocal ∷ valueLocal ∷ valueLocal ∷ valueLocal ∷ valueLocal ∷ valueLocal ∷ valueLocal ∷ valueLocal ∷ valueLocal ∷ []) (code.function .body) _ (λ κs qs bs.
+      calls contracts.start-of start-of (record { pos = 4; st = []; d = 0; at = λ x. x }, tt) 9 [] ((yields range W, refl), tt) (empty W (spelled device)) tt refl
+      ⨟ calls below.find find (record { pos = 1; ty = (sharedAt mapping 0); ref = λ x. x }, (vAt 2 (λ x. x), (record { pos = 9; st = []; d = 0; at = λ x. x }, tt))) 5 (0 ∷ []) (spares-sslice 𝓤 H A W (row mapping) (sharedAt mapping 0) 0, reads-sslice 𝓤 H A W (row mapping) (sharedAt mapping 0) 0, refl, ((number W w64, refl), ((yields device W, refl), tt))) (empty W (spelled search)) (tt, tt) refl
+      ⨟ calls contracts.place-of place-of (record { pos = 5; st = []; d = 0; at = λ x. x }, tt) 10 [] ((yields search W, refl), tt) (empty W (tyInt w64)) tt refl
+      ⨟ calls below.get get (record { pos = 1; ty = (sharedAt mapping 0); ref = λ x. x }, (vAt 2 (λ x. x), (vAt 10 (λ x. x), tt))) 6 (0 ∷ []) (spares-sslice 𝓤 H A W (row mapping) (sharedAt mapping 0) 0, reads-sslice 𝓤 H A W (row mapping) (sharedAt mapping 0) 0, refl, ((number W w64, refl), ((number W w64, refl), tt))) (empty W (spelled mapping)) (tt, tt) refl
+      ⨟ calls contracts.past past (record { pos = 4; st = []; d = 0; at = λ x. x }, tt) 9 [] ((yields range W, refl), tt) (room device W) tt refl
+      ⨟ calls below.find find (record { pos = 1; ty = (sharedAt mapping 0); ref = λ x. x }, (vAt 2 (λ x. x), (record { pos = 9; st = []; d = 0; at = λ x. x }, tt))) 7 (0 ∷ []) (spares-sslice 𝓤 H A W (row mapping) (sharedAt mapping 0) 0, reads-sslice 𝓤 H A W (row mapping) (sharedAt mapping 0) 0, refl, ((number W w64, refl), ((yields device W, refl), tt))) (empty W (spelled search)) (tt, tt) refl
+      ⨟ calls contracts.place-of place-of (record { pos = 7; st = []; d = 0; at = λ x. x }, tt) 10 [] ((yields search W, refl), tt) (used W (sInt w64)) tt refl
+      ⨟ calls below.get get (record { pos = 1; ty = (sharedAt mapping 0); ref = λ x. x }, (vAt 2 (λ x. x), (vAt 10 (λ x. x), tt))) 8 (0 ∷ []) (spares-sslice 𝓤 H A W (row mapping) (sharedAt mapping 0) 0, reads-sslice 𝓤 H A W (row mapping) (sharedAt mapping 0) 0, refl, ((number W w64, refl), ((number W w64, refl), tt))) (empty W (spelled mapping)) (tt, tt) refl
+      ⨟ calls contracts.planned-unmap planned-unmap (vAt 3 (λ x. x), (record { pos = 4; st = []; d = 0; at = λ x. x }, (vAt 2 (λ x. x), (record { pos = 5; st = []; d = 0; at = λ x. x }, (record { pos = 6; st = []; d = 0; at = λ x. x }, (record { pos = 7; st = []; d = 0; at = λ x. x }, (record { pos = 8; st = []; d = 0; at = λ x. x }, tt))))))) 0 [] ((number W w32, refl), ((yields range W, refl), ((number W w64, refl), ((yields search W, refl), ((yields mapping W, refl), ((yields search W, refl), ((yields mapping W, refl), tt))))))) (empty W (spelled unmap)) tt refl
+      ⨟ gone 2 (tyInt w64) (used W (sInt w64)) ⨾ gone 3 (tyInt w32) (used W (sInt w32)) ⨾ gone 4 (spelled range) (room range W) ⨾ gone 5 (spelled search) (room search W) ⨾ gone 6 (spelled mapping) (room mapping W) ⨾ gone 7 (spelled search) (room search W) ⨾ gone 8 (spelled mapping) (room mapping W) ⨾ gone 9 (spelled device) (room device W) ⨾ gone 10 (tyInt w64) (used W (sInt w64)) ⨾ done)
+      (λ κs qs a good ask bs. ((λ _. tt), λ r-start-of. ((λ _. ask), λ r-find. ((λ _. tt), λ r-place-of. ((λ _. ask .fits), λ r-get. ((λ _. tt), λ r-past. ((λ _. ask), λ r-find2. ((λ _. tt), λ r-place-of2. ((λ _. ask .fits), λ r-get2. ((λ _. tt), λ r-planned-unmap. ((refl, (tt, (tt, (tt, tt)))), unmap-planned (a .0 .now) (a .1 .0) (a .1 .1 .0) (a .1 .1 .1 .0) ask (r-start-of .1) (r-start-of .5) (r-find .1) (r-find .5 .1) (r-place-of .1) (r-place-of .5) (r-get .1) (r-get .5) (r-past .1) (r-past .5) (r-find2 .1) (r-find2 .5 .1) (r-place-of2 .1) (r-place-of2 .5) (r-get2 .1) (r-get2 .5) (r-planned-unmap .1) (r-planned-unmap .5))))))))))))
 
 pub plan-unmap-spec : {M : Type 1} → stated.statement M
 unfolding code.routine tablesOf

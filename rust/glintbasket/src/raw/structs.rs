@@ -78,6 +78,8 @@ pub struct State {
     /// Which card it is: how many 64-bit words of features it has, 1 or 2 (see [`Card`](crate::Card)). Every other value makes the state
     /// unsound.
     pub words: u8,
+    /// The number of the container's [`IommuType`](crate::IommuType), 1 or 3. Every other value makes the state unsound.
+    pub iommu_type: u32,
 }
 
 /// An answer: a result, or a refusal's number and place.
@@ -175,11 +177,12 @@ const _: () = {
     assert!(offset_of!(Mapping, rights) == 24);
     assert!(size_of::<Register>() == 33);
     assert!(size_of::<Registers>() == 462);
-    assert!(size_of::<State>() == 480);
+    assert!(size_of::<State>() == 488);
     assert!(offset_of!(State, count) == 8);
     assert!(offset_of!(State, registers) == 16);
     assert!(offset_of!(State, running) == 478);
     assert!(offset_of!(State, words) == 479);
+    assert!(offset_of!(State, iommu_type) == 480);
     assert!(size_of::<Outcome>() == 24);
     assert!(size_of::<Found>() == 56);
     assert!(offset_of!(Found, address) == 24);

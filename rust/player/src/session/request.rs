@@ -64,7 +64,7 @@ impl Listed {
 const ARGSZ: Field = field("argsz", 0, 4);
 const FLAGS: Field = field("flags", 4, 4);
 const INDEX: Field = field("index", 8, 4);
-const EXTENSION: Field = field("number", 0, 4);
+const NUMBER: Field = field("number", 0, 4);
 
 const MAP: &[Field] = &[
     ARGSZ,
@@ -75,9 +75,10 @@ const MAP: &[Field] = &[
 ];
 const UNMAP: &[Field] = &[ARGSZ, FLAGS, field("device", 8, 8), field("size", 16, 8)];
 
-const LISTED: [Listed; 9] = [
+const LISTED: [Listed; 10] = [
     listed(CONTAINER, "api-version", 100, 0, &[]),
-    listed(CONTAINER, "check-extension", 101, 4, &[EXTENSION]),
+    listed(CONTAINER, "check-extension", 101, 4, &[NUMBER]),
+    listed(CONTAINER, "set-iommu", 102, 4, &[NUMBER]),
     listed(CONTAINER, "iommu-info", 112, 16, &[ARGSZ]).with_output(),
     listed(CONTAINER, "map", 113, 32, MAP),
     listed(CONTAINER, "unmap", 114, 24, UNMAP).with_output(),

@@ -295,6 +295,10 @@ fn named_requests_have_defaults_and_stale_bytes() {
     assert_eq!(request("device reset"), (1, 111, vec![]));
     let extension = (0, 101, vec![3, 0, 0, 0]);
     assert_eq!(request("container check-extension number=3"), extension);
+    let iommu = (0, 102, vec![1, 0, 0, 0]);
+    assert_eq!(request("container set-iommu number=1"), iommu);
+    assert_eq!(columns("request container set-iommu argsz=4"), [29]);
+    assert_eq!(columns("request device set-iommu number=1"), [16]);
     let mut info = vec![16, 0, 0, 0];
     info.extend([0xee; 12]);
     assert_eq!(request("0 iommu-info"), (0, 112, info.clone()));

@@ -35,10 +35,12 @@ const fn named(target: u64, name: &'static str, number: u64, fields: &'static [F
 const ARGSZ: Field = field("argsz", 0, 4);
 const FLAGS: Field = field("flags", 4, 4);
 const INDEX: Field = field("index", 8, 4);
+const NUMBER: Field = field("number", 0, 4);
 
-pub const REQUESTS: [Named; 9] = [
+pub const REQUESTS: [Named; 10] = [
     named(CONTAINER, "api-version", 100, &[]),
-    named(CONTAINER, "check-extension", 101, &[field("number", 0, 4)]),
+    named(CONTAINER, "check-extension", 101, &[NUMBER]),
+    named(CONTAINER, "set-iommu", 102, &[NUMBER]),
     named(CONTAINER, "iommu-info", 112, &[ARGSZ]),
     named(
         CONTAINER,

@@ -699,6 +699,8 @@ mod tests {
         assert_eq!(short, [some(&[32, 0, 0, 0]), stale(4), some(&[3])].concat());
         assert_eq!(request_buffer("request device reset room=2"), stale(2));
         assert_eq!(request_buffer("request container api-version"), []);
+        let set = request_buffer("request container set-iommu number=0x103 room=5");
+        assert_eq!(set, [some(&[3, 1, 0, 0]), stale(1)].concat());
     }
 
     #[test]
@@ -711,6 +713,8 @@ mod tests {
             ("request container map flags", 23),
             ("request container map flags=1 flags=1", 31),
             ("request container unmap memory=0", 25),
+            ("request container set-iommu argsz=4", 29),
+            ("request device set-iommu number=1", 16),
             ("request device info room=1048577", 21),
             ("request device", 15),
             ("request", 8),
