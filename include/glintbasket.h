@@ -43,6 +43,7 @@ extern "C" {
 #define GLINT_PAGE_SIZE 4096u
 #define GLINT_RECORDS_LIMIT 4096u                 /* records that may be lent, and so mappings that are held */
 #define GLINT_REGISTERS 14u                       /* registers that are kept */
+#define GLINT_LINES 25u                           /* interrupt lines of all indices: 1, 8, 16 and 0 */
 #define GLINT_DEVICE_LIMIT UINT64_C(0x1000000000000) /* device addresses lie below */
 #define GLINT_MEMORY_LIMIT UINT64_C(0x40000000)   /* memory has at most so many bytes */
 #define GLINT_TRANSFER_LIMIT 65536u               /* bytes of one transfer, and of a stream */
@@ -63,12 +64,12 @@ enum glint_refusal {
     GLINT_BAD_BENCH = 1,       /* records, memory and marks do not fit each other or the state, or the state or a record in use is not sound */
     GLINT_NO_SUCH_REQUEST = 2, /* the target has no request of this number */
     GLINT_SHORT = 3,           /* buffer shorter than the request's size */
-    GLINT_ARG_SIZE = 4,        /* argsz below the request's size or above the buffer's length */
+    GLINT_ARG_SIZE = 4,        /* argsz below the request's size, or that of its data, or above the buffer's length */
     GLINT_FLAGS = 5,           /* flags not allowed; an IOMMU type that there is not, or that a container with a mapping cannot take */
-    GLINT_INDEX = 6,           /* no such region, interrupt, queue or field; place in a stream: start of the part */
+    GLINT_INDEX = 6,           /* no such region, interrupt, line, queue or field; place in a stream: start of the part */
     GLINT_UNALIGNED = 7,       /* an address or size is no multiple of 4,096 */
-    GLINT_EMPTY = 8,           /* size 0 */
-    GLINT_RANGE = 9,           /* past 2^48, or past the end of memory */
+    GLINT_EMPTY = 8,           /* size 0, or no interrupt line */
+    GLINT_RANGE = 9,           /* past 2^48, past the end of memory, or past the last line of an interrupt index */
     GLINT_OVERLAP = 10,        /* shares a device address with a held mapping */
     GLINT_NO_ROOM = 11,        /* every lent record is in use */
     GLINT_CUTS = 12,           /* the range holds some but not all of a mapping; never with GLINT_TYPE1_IOMMU */
@@ -81,7 +82,7 @@ enum glint_refusal {
     GLINT_HEADER = 19,         /* place: start of the part */
     GLINT_UNKNOWN_PART = 20,   /* place: start of the part */
     GLINT_TWICE = 21,          /* place: start of the part */
-    GLINT_VALUE = 22,          /* place: start of the part */
+    GLINT_VALUE = 22,          /* also an event number below -1; place: start of the part */
     GLINT_MISMATCH = 23,       /* place: start of the part */
     GLINT_MISSING = 24,        /* no status part; place: length of the stream */
     GLINT_UNSET = 25,          /* the register is not set */
@@ -157,6 +158,14 @@ typedef struct glint_registers {
     glint_register slots[GLINT_REGISTERS];
 } glint_registers;
 
+/* An interrupt line. Read it by glint_show_line. */
+typedef struct glint_line {
+    int32_t number;  /* of the event that it raises; -1: none is assigned; below: not sound */
+    uint32_t tally;  /* how many events it raised since its number was stored, modulo 2^32 */
+    uint8_t masked;  /* 1: it is masked; every other value: it is not */
+    uint8_t pending; /* 1: an event came while it was masked; every other value: none did */
+} glint_line;
+
 /*
  * What is kept between calls. Each call borrows it, and changes it where it stands. It may start as zeros before glint_power_on. Any
  * values may stand in it: a call refuses an unsound one with GLINT_BAD_BENCH.
@@ -168,6 +177,7 @@ typedef struct glint_state {
     uint8_t running;     /* 1: the device runs; every other value: it does not */
     uint8_t words;       /* which card it is, by the 64-bit words of its features: 1 or 2; every other value: not sound */
     uint32_t iommu_type; /* the container's: GLINT_TYPE1_IOMMU or GLINT_TYPE1V2_IOMMU; every other value: not sound */
+    glint_line lines[GLINT_LINES]; /* those of index 0, then of 1, then of 2 */
 } glint_state;
 
 /* ---- answers */
@@ -192,6 +202,15 @@ typedef struct glint_found {
     uint64_t probes; /* how many mappings the search looked at, at most 13; with GLINT_UNMAPPED, too, beside the place, which is 0 */
 } glint_found;
 
+/* The answer of showing a line. */
+typedef struct glint_shown_line {
+    glint_outcome outcome;
+    int32_t number;
+    uint32_t tally;
+    bool masked;
+    bool pending;
+} glint_shown_line;
+
 /* One step over a stream: refused; or the end; or a part. */
 typedef struct glint_part_step {
     bool refused;
@@ -215,18 +234,28 @@ GLINT_ASSERT(offsetof(glint_mapping, size) == 16);
 GLINT_ASSERT(offsetof(glint_mapping, rights) == 24);
 GLINT_ASSERT(sizeof(glint_register) == 33);
 GLINT_ASSERT(sizeof(glint_registers) == 462);
-GLINT_ASSERT(sizeof(glint_state) == 488);
+GLINT_ASSERT(sizeof(glint_line) == 12);
+GLINT_ASSERT(offsetof(glint_line, tally) == 4);
+GLINT_ASSERT(offsetof(glint_line, masked) == 8);
+GLINT_ASSERT(offsetof(glint_line, pending) == 9);
+GLINT_ASSERT(sizeof(glint_state) == 784);
 GLINT_ASSERT(offsetof(glint_state, count) == 8);
 GLINT_ASSERT(offsetof(glint_state, registers) == 16);
 GLINT_ASSERT(offsetof(glint_state, running) == 478);
 GLINT_ASSERT(offsetof(glint_state, words) == 479);
 GLINT_ASSERT(offsetof(glint_state, iommu_type) == 480);
+GLINT_ASSERT(offsetof(glint_state, lines) == 484);
 GLINT_ASSERT(sizeof(glint_outcome) == 24);
 GLINT_ASSERT(sizeof(glint_found) == 56);
 GLINT_ASSERT(offsetof(glint_found, address) == 24);
 GLINT_ASSERT(offsetof(glint_found, rights) == 32);
 GLINT_ASSERT(offsetof(glint_found, left) == 40);
 GLINT_ASSERT(offsetof(glint_found, probes) == 48);
+GLINT_ASSERT(sizeof(glint_shown_line) == 40);
+GLINT_ASSERT(offsetof(glint_shown_line, number) == 24);
+GLINT_ASSERT(offsetof(glint_shown_line, tally) == 28);
+GLINT_ASSERT(offsetof(glint_shown_line, masked) == 32);
+GLINT_ASSERT(offsetof(glint_shown_line, pending) == 33);
 GLINT_ASSERT(sizeof(glint_part_step) == 56);
 
 /* ---- the library's functions */
@@ -244,8 +273,8 @@ GLINT_ASSERT(sizeof(glint_part_step) == 56);
 
 /*
  * Fresh start: all marks 0, memory bytes untouched, the memory's length noted, no mapping, the container of GLINT_TYPE1V2_IOMMU, the device
- * stopped and reset. The first is that of the card with 64 feature bits, the second of the card with 128. No record is looked at or
- * changed.
+ * stopped and reset, its interrupt lines disabled. The first is that of the card with 64 feature bits, the second of the card with 128. No
+ * record is looked at or changed.
  */
 glint_outcome glint_power_on(glint_state *state, const glint_mapping *records, size_t records_length, const uint8_t *memory,
                              size_t memory_length, uint8_t *marks, size_t marks_length);
@@ -262,6 +291,10 @@ glint_outcome glint_request(glint_state *state, glint_mapping *records, size_t r
  * looked at. Refused: 9; 14, which has the number of mappings looked at as well.
  */
 glint_found glint_look_up(const glint_state *state, const glint_mapping *records, size_t records_length, uint64_t device);
+
+/* Shows the interrupt line of an index and its number there, from 0 on. Refused: 6. */
+glint_shown_line glint_show_line(const glint_state *state, const glint_mapping *records, size_t records_length, uint32_t index,
+                                 uint32_t line);
 
 /* Card read: fills `buffer` from the device address on. Refused: 13, 9, then by the first faulty offset 14, 15, 16. */
 glint_outcome glint_device_read(const glint_state *state, const glint_mapping *records, size_t records_length, const uint8_t *memory,
@@ -338,6 +371,7 @@ uint64_t glint_check_save_128(const uint8_t *stream, size_t stream_length);
 #define GLINT_DEVICE_GET_INFO 107u
 #define GLINT_DEVICE_GET_REGION_INFO 108u
 #define GLINT_DEVICE_GET_IRQ_INFO 109u
+#define GLINT_DEVICE_SET_IRQS 110u
 #define GLINT_DEVICE_RESET 111u
 
 /*
@@ -346,6 +380,20 @@ uint64_t glint_check_save_128(const uint8_t *stream, size_t stream_length);
  */
 #define GLINT_TYPE1_IOMMU 1u   /* older containers */
 #define GLINT_TYPE1V2_IOMMU 3u /* as a fresh start leaves it */
+
+/*
+ * Flags of GLINT_DEVICE_SET_IRQS, with the kernel's numbers: one of the first three, for the data, and one of the others, for what is done
+ * to the lines. Mask and unmask are for an index that is maskable, and event numbers for trigger alone, which then stores them.
+ */
+#define GLINT_IRQ_SET_DATA_NONE 1u    /* no data: each line is meant */
+#define GLINT_IRQ_SET_DATA_BOOL 2u    /* a byte for each line: any but 0 means the line */
+#define GLINT_IRQ_SET_DATA_EVENTFD 4u /* four bytes for each line: a signed event number, -1 for none */
+#define GLINT_IRQ_SET_ACTION_MASK 8u
+#define GLINT_IRQ_SET_ACTION_UNMASK 16u
+#define GLINT_IRQ_SET_ACTION_TRIGGER 32u
+
+/* Bytes of data that such a request ever reads: four for each of 16 lines. */
+#define GLINT_IRQ_DATA_MAX 64u
 
 /* The requests' buffers, laid out as the kernel's structs. Fields that a comment calls output are not read. */
 
@@ -393,12 +441,22 @@ typedef struct glint_irq_info {
     uint32_t count; /* output */
 } glint_irq_info;
 
+/* The data follow at once. */
+typedef struct glint_irq_set {
+    uint32_t argsz; /* with the data */
+    uint32_t flags;
+    uint32_t index;
+    uint32_t start; /* the first line */
+    uint32_t count; /* how many lines */
+} glint_irq_set;
+
 GLINT_ASSERT(sizeof(glint_dma_map) == 32);
 GLINT_ASSERT(sizeof(glint_dma_unmap) == 24);
 GLINT_ASSERT(sizeof(glint_iommu_info) == 16);
 GLINT_ASSERT(sizeof(glint_device_info) == 16);
 GLINT_ASSERT(sizeof(glint_region_info) == 32);
 GLINT_ASSERT(sizeof(glint_irq_info) == 16);
+GLINT_ASSERT(sizeof(glint_irq_set) == 20);
 
 /* ---- registers */
 
@@ -619,7 +677,52 @@ static inline glint_outcome glint_bench_irq_info(glint_bench *bench, uint32_t in
     return outcome;
 }
 
-/* Resets the device's registers; it runs or stays stopped as before. */
+/*
+ * Acts on `count` lines of an index, from `start` on, by flags (GLINT_IRQ_SET_*) and data:
+ *   - event numbers are stored, and the lines' masks, pending events and tallies cleared;
+ *   - a trigger raises the tally of a line with a number, and masks it where the index is automasked; a masked line becomes pending;
+ *   - unmask clears the mask; a line that was pending is so no longer, and is triggered once.
+ * A line without a number stays as it is but where one is stored. Refused: 5, 6, 9, 8 for no line, 4 for too few data, 22 for an event
+ * number below -1, and then none is stored.
+ */
+static inline glint_outcome glint_bench_set_irqs(glint_bench *bench, uint32_t flags, uint32_t index, uint32_t start, uint32_t count,
+                                                 const void *data, size_t length)
+{
+    if (glint_is_null(data, length))
+        return glint_null_refusal();
+    /* More bytes belong to more lines than any index has: they are not read. */
+    size_t used = length < GLINT_IRQ_DATA_MAX ? length : GLINT_IRQ_DATA_MAX;
+    glint_irq_set set = {(uint32_t)(sizeof set + used), flags, index, start, count};
+    uint8_t buffer[sizeof set + GLINT_IRQ_DATA_MAX];
+    memcpy(buffer, &set, sizeof set);
+    memcpy(buffer + sizeof set, glint_bytes(data), used);
+    return glint_bench_request(bench, GLINT_DEVICE, GLINT_DEVICE_SET_IRQS, buffer, sizeof set + used);
+}
+
+/* Stores event numbers for the lines of an index from `start` on; -1 leaves a line without one. */
+static inline glint_outcome glint_bench_set_events(glint_bench *bench, uint32_t index, uint32_t start, const int32_t *numbers,
+                                                   uint32_t count)
+{
+    return glint_bench_set_irqs(bench, GLINT_IRQ_SET_DATA_EVENTFD | GLINT_IRQ_SET_ACTION_TRIGGER, index, start, count, numbers,
+                                sizeof *numbers * (size_t)count);
+}
+
+/* Disables an index: no line of it has a number, is masked or pending, and all tallies are 0. */
+static inline glint_outcome glint_bench_disable_irqs(glint_bench *bench, uint32_t index)
+{
+    return glint_bench_set_irqs(bench, GLINT_IRQ_SET_DATA_NONE | GLINT_IRQ_SET_ACTION_TRIGGER, index, 0, 0, NULL, 0);
+}
+
+static inline glint_shown_line glint_bench_show_line(const glint_bench *bench, uint32_t index, uint32_t line)
+{
+    if (glint_bench_has_null_records(bench)) {
+        glint_shown_line refused = {glint_null_refusal(), 0, 0, false, false};
+        return refused;
+    }
+    return glint_show_line(&bench->state, glint_records(bench), bench->records_length, index, line);
+}
+
+/* Resets the device's registers and disables its interrupt lines; it runs or stays stopped as before. */
 static inline glint_outcome glint_bench_reset(glint_bench *bench)
 {
     return glint_bench_request(bench, GLINT_DEVICE, GLINT_DEVICE_RESET, NULL, 0);

@@ -1,11 +1,10 @@
 // A session from C over the static library, with the structs and request numbers of the machine's own <linux/vfio.h>.
 // The last line is 'N passed, M failed', over the tests in main.
 #include <linux/vfio.h>
-#include <stdio.h>
-#include <stdlib.h>
 #include <sys/ioctl.h>
 
-#include "glintbasket.h"
+#define TEST_FILE "session.c"
+#include "check.h"
 
 // ---- the kernel's layout is the emulator's
 
@@ -69,33 +68,6 @@ SAME_NUMBER(DEVICE_RESET);
 _Static_assert(VFIO_TYPE1_IOMMU == GLINT_TYPE1_IOMMU && VFIO_TYPE1v2_IOMMU == GLINT_TYPE1V2_IOMMU, "IOMMU types");
 _Static_assert(VFIO_DMA_MAP_FLAG_READ == GLINT_READ && VFIO_DMA_MAP_FLAG_WRITE == GLINT_WRITE, "rights");
 
-// ---- checks
-
-static unsigned faults;
-
-static void check(bool holds, const char *what, int line)
-{
-    if (holds)
-        return;
-    fprintf(stderr, "session.c:%d: does not hold: %s\n", line, what);
-    faults++;
-}
-
-static void check_outcome(glint_outcome is, glint_outcome want, int line)
-{
-    if (is.refused == want.refused && is.code == want.code && is.place == want.place && is.result == want.result)
-        return;
-    fprintf(stderr, "session.c:%d: refused %d code %u (%s) place %llu result %llu, not refused %d code %u (%s) place %llu result %llu\n",
-            line, is.refused, is.code, glint_refusal_name(is.code), (unsigned long long)is.place, (unsigned long long)is.result,
-            want.refused, want.code, glint_refusal_name(want.code), (unsigned long long)want.place, (unsigned long long)want.result);
-    faults++;
-}
-
-#define CHECK(condition) check((condition), #condition, __LINE__)
-#define CHECK_BYTES(is, want, length) check(memcmp((is), (want), (length)) == 0, #is " is " #want, __LINE__)
-#define CHECK_DONE(is, value) check_outcome((is), (glint_outcome){.result = (value)}, __LINE__)
-#define CHECK_REFUSED(is, number, at) check_outcome((is), (glint_outcome){.refused = true, .code = (number), .place = (at)}, __LINE__)
-
 // ---- lent bytes with a fence on both sides: the library is not built with the sanitizer, so its stores are looked for here
 
 enum { FENCE = 64, ROOM = 3 * 4096, FILLER = 0xa5 };
@@ -141,8 +113,8 @@ static bool fence_holds(const struct fenced *fenced)
 
 enum { PAGE = 4096, RECORDS = 64 };
 
-// The bytes of a state that are fields: behind them stands padding, which a copy need not keep.
-enum { STATE_BYTES = offsetof(glint_state, iommu_type) + sizeof(uint32_t) };
+// Each field of a state but the lines, which have padding that a copy need not keep (interrupts.c compares them).
+enum { STATE_BYTES = offsetof(glint_state, lines) };
 
 static struct fenced memory, marks, buffer;
 static struct {
@@ -237,7 +209,7 @@ static void check_look_up(uint64_t iova, glint_found want, int line)
     check_outcome(is.outcome, want.outcome, line);
     if (is.address.value == want.address.value && is.rights == want.rights && is.left == want.left && is.probes == want.probes)
         return;
-    fprintf(stderr, "session.c:%d: look-up of %llx: address %llu rights %u left %llu probes %llu, not %llu, %u, %llu and %llu\n", line,
+    fprintf(stderr, TEST_FILE ":%d: look-up of %llx: address %llu rights %u left %llu probes %llu, not %llu, %u, %llu and %llu\n", line,
             (unsigned long long)iova, (unsigned long long)is.address.value, is.rights, (unsigned long long)is.left,
             (unsigned long long)is.probes, (unsigned long long)want.address.value, want.rights, (unsigned long long)want.left,
             (unsigned long long)want.probes);
@@ -1090,14 +1062,17 @@ static void refusal_names(void)
     CHECK(strcmp(glint_refusal_name(28), "?") == 0);
 }
 
-#define TEST(name) {#name, name}
+// Whatever a test did, nothing around records, memory and marks was written.
+static void nothing_around_written(void)
+{
+    CHECK(fence_holds(&memory) && fence_holds(&marks));
+    CHECK(all_filler((const uint8_t *)&table.before, sizeof table.before) && stale(bench.records_length, GLINT_RECORDS_LIMIT + 1));
+    CHECK(all_filler((const uint8_t *)&table.behind, sizeof table.behind));
+}
 
 int main(void)
 {
-    static const struct {
-        const char *name;
-        void (*run)(void);
-    } tests[] = {
+    static const struct test tests[] = {
         TEST(power_on),     TEST(bad_bench),     TEST(container),  TEST(iommu_info),  TEST(map_and_look_up), TEST(table_full),
         TEST(unmap_ranges), TEST(device_reads),  TEST(device_writes), TEST(host_loads), TEST(device_info),   TEST(region_info),
         TEST(irq_info),     TEST(registers),     TEST(save_and_load), TEST(steps),      TEST(no_memory),     TEST(refusal_names),
@@ -1105,20 +1080,5 @@ int main(void)
         TEST(stale_records), TEST(exchanged_records), TEST(bytes_left), TEST(probes), TEST(older_driver),    TEST(set_iommu_types),
         TEST(kept_iommu_type), TEST(unmap_by_type), TEST(stale_records_type1),
     };
-    const unsigned count = sizeof tests / sizeof *tests;
-    unsigned failed = 0;
-    for (unsigned i = 0; i < count; i++) {
-        unsigned before = faults;
-        tests[i].run();
-        // Whatever a test did, nothing around records, memory and marks was written.
-        CHECK(fence_holds(&memory) && fence_holds(&marks));
-        CHECK(all_filler((const uint8_t *)&table.before, sizeof table.before) && stale(bench.records_length, GLINT_RECORDS_LIMIT + 1));
-        CHECK(all_filler((const uint8_t *)&table.behind, sizeof table.behind));
-        if (faults > before) {
-            fprintf(stderr, "failed: %s\n", tests[i].name);
-            failed++;
-        }
-    }
-    printf("%u passed, %u failed\n", count - failed, failed);
-    return failed == 0 ? EXIT_SUCCESS : EXIT_FAILURE;
+    return run_tests(tests, GLINT_COUNT(tests), nothing_around_written);
 }

@@ -12,12 +12,12 @@ use Rattle.memory.specs.Memory.{Memory, Edit, put, clear, edit, edited, byteAt}
 use Rattle.memory.proofs.Marks.{marked-other, cleared-was, marked-alike}
 use Rattle.emulator.specs.Machine.{Machine, Emulator, lendable}
 use Rattle.emulator.specs.Effect.{Effect, Outcome, after}
-use Rattle.emulator.specs.Calls.{input, outcome}
+use Rattle.emulator.specs.Calls.{Call, input, outcome}
 use Rattle.emulator.proofs.SameMarks.{shadowedBy, outcome-same}
 use Rattle.assurance.specs.Overwrite.{overwrite, mask}
 use Rattle.assurance.specs.Runs.{Ask, Others, Event, written, disturbed, lentTo, event, turn, run, Same, Alike}
 use Rattle.assurance.proofs.Overwrite.{length-overwrite, overwrite-overwrite, getD-kept, mask-eq}
-use Rattle.assurance.proofs.Blind.{seen, blind}
+use Rattle.assurance.proofs.Blind.{seen, blind, input-stable}
 
 -- ---- the relation of demand 3 is equality of what is seen
 
@@ -47,9 +47,14 @@ seen-parts e f p =
 
 -- ---- others change nothing that a call takes in
 
-pub mask-lent : (w : Others) (q : Ask) → mask (input (q .call)) (lentTo w q) ≡ mask (input (q .call)) (q .buffer)
-unfolding mask lentTo
-mask-lent w q = overwrite-overwrite (input (q .call)) (λ i. 0) (w .buffer) (q .buffer)
+pub mask-over : (c : Call) (w : ℕ → ℕ) (buf : List ℕ) → mask (input c (overwrite (input c buf) w buf)) (overwrite (input c buf) w buf) ≡ mask (input c buf) buf
+unfolding mask
+mask-over c w buf =
+    ap (λ (keep : ℕ → Bool). overwrite keep (λ i. 0) (overwrite (input c buf) w buf)) (input-stable c w buf) ∙ overwrite-overwrite (input c buf) (λ i. 0) w buf
+
+pub mask-lent : (w : Others) (q : Ask) → mask (input (q .call) (lentTo w q)) (lentTo w q) ≡ mask (input (q .call) (q .buffer)) (q .buffer)
+unfolding lentTo
+mask-lent w q = mask-over (q .call) (w .buffer) (q .buffer)
 
 -- ---- what is seen after an edit goes by what was seen before it
 

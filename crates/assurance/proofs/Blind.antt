@@ -1,5 +1,5 @@
 -- No call looks at a stale byte of its buffer or at unwritten memory: its outcome is the one with those bytes masked.
-use Prim.Native.Nat.{ℕ, zero, suc, _+_, _≤_, _<_}
+use Prim.Native.Nat.{ℕ, zero, suc, _+_, _*_, _≤_, _<_}
 use native.Mathlib.Nat.{add-zero, add-suc, suc-add}
 use native.Mathlib.Numerals.{add-one}
 use native.Mathlib.Omega.{arith}
@@ -8,7 +8,7 @@ use mathlib.Core.Bool.{Bool, true, false}
 use mathlib.Core.List.{List, [], _∷_}
 use mathlib.Core.Option.{Option, none, some}
 use lib.ListN.{length}
-use lib.Dec.{eqb}
+use lib.Dec.{eqb, leb, ltb}
 use borrow.Author.Tests.{leb-true}
 use Rattle.answer.specs.Tests.{_and_, _or_, pick}
 use Rattle.answer.specs.Checks.{_then_, firstFault}
@@ -29,13 +29,16 @@ use Rattle.memory.specs.Shadow.{Shadow, initialized}
 use Rattle.memory.specs.Memory.{Memory, byteAt, bytesFrom}
 use Rattle.memory.specs.Transfers.{unwrittenAt, unwrittenIn, hostWriteChecks, hostReadChecks}
 use Rattle.dma.specs.Transfers.{readFault, transferChecks, deviceReadChecks, location, gather}
-use Rattle.emulator.specs.Machine.{Machine, Emulator, Given, memoryAlone, stateAlone, both, usable, lendable, asNoted}
-use Rattle.emulator.specs.Effect.{Effect, Outcome, effectOf, outcomeOf, writing}
-use Rattle.emulator.specs.Requests.{Request, getApiVersion, checkExtension, setIommu, getIommuInfo, mapDma, unmapDma, getInfo, getRegionInfo, getIrqInfo, resetDevice, Entry, requests, entryIn, identify, inFields, inputOf, requestedType, requestedMapping, requestedStart, requestedSize, requestedIndex, argszChecks, listedChecks, sizeChecks, requestChecks, listedEffect, requestEffect}
-use Rattle.emulator.specs.Calls.{Call, powerOn, request, lookUp, deviceRead, deviceWrite, hostWrite, hostRead, invalidate, setRegister, readRegister, loadParts, saveParts, stop, start, given, input, ownChecks, checks, front, effect, probesOf, outcome}
+use Rattle.interrupts.specs.Requests.{flagsOf, countOf, kindOf, width, dataStart, readsData}
+use Rattle.interrupts.specs.declared.Line.{Line}
+use Rattle.interrupts.proofs.Requests.{Agrees, checks-agree, lines-agree}
+use Rattle.emulator.specs.Machine.{Machine, Emulator, Given, memoryAlone, stateAlone, both, usable, lendable, asNoted, withLines}
+use Rattle.emulator.specs.Effect.{Effect, Outcome, effectOf, outcomeOf, leaving, writing}
+use Rattle.emulator.specs.Requests.{Request, getApiVersion, checkExtension, setIommu, getIommuInfo, mapDma, unmapDma, getInfo, getRegionInfo, getIrqInfo, setIrqs, resetDevice, Entry, requests, entryIn, identify, inFields, dataOf, inputOf, requestedType, requestedMapping, requestedStart, requestedSize, requestedIndex, argszChecks, listedChecks, sizeChecks, requestChecks, listedEffect, requestEffect}
+use Rattle.emulator.specs.Calls.{Call, powerOn, request, lookUp, deviceRead, deviceWrite, hostWrite, hostRead, invalidate, setRegister, readRegister, showLine, loadParts, saveParts, stop, start, given, input, ownChecks, checks, front, effect, probesOf, outcome}
 use Rattle.assurance.specs.Overwrite.{overwrite, mask}
 use Rattle.assurance.specs.Runs.{written}
-use Rattle.assurance.proofs.Overwrite.{length-overwrite, length-mask, mask-all, getD-kept, part-kept, keeps, field-kept}
+use Rattle.assurance.proofs.Overwrite.{length-overwrite, length-mask, mask-all, getD-kept, part-kept, keeps, keeps-at, field-over, field-kept}
 
 -- the emulator as a call may look at it: no unwritten byte is seen
 unfoldable pub seen : Emulator → Emulator
@@ -72,19 +75,20 @@ readsKept keep unmapDma = keeps keep 4 4 and keeps keep 8 8 and keeps keep 16 8
 readsKept keep getInfo = true
 readsKept keep getRegionInfo = keeps keep 8 4
 readsKept keep getIrqInfo = keeps keep 8 4
+readsKept keep setIrqs = keeps keep 0 20 and keeps keep 4 4 and keeps keep 16 4
 readsKept keep resetDevice = true
 
 -- argsz and the fields of its request are input fields of an entry
-unfoldable entryReads : Entry → Bool
-entryReads r = pick (r .argsz) (keeps (inFields (r .input)) 0 4) true and readsKept (inFields (r .input)) (r .request)
+unfoldable entryReads : List ℕ → Entry → Bool
+entryReads buf r = pick (r .argsz) (keeps (inputOf (some r) buf) 0 4) true and readsKept (inputOf (some r) buf) (r .request)
 
-unfoldable allRead : List Entry → Bool
-allRead [] = true
-allRead (r ∷ rs) = entryReads r and allRead rs
+unfoldable allRead : List ℕ → List Entry → Bool
+allRead buf [] = true
+allRead buf (r ∷ rs) = entryReads buf r and allRead buf rs
 
-all-read : allRead requests ≡ true
-unfolding allRead entryReads readsKept keeps inFields pick _and_ _or_
-all-read = refl
+all-read : (buf : List ℕ) → allRead buf requests ≡ true
+unfolding allRead entryReads readsKept keeps inputOf inFields pick _and_ _or_
+all-read buf = refl
 
 module _ (keep : ℕ → Bool) (buf : List ℕ) (e : Emulator) where
   mapping-blind : readsKept keep mapDma ≡ true → requestedMapping (mask keep buf) ≡ requestedMapping buf
@@ -95,37 +99,49 @@ module _ (keep : ℕ → Bool) (buf : List ℕ) (e : Emulator) where
       let c = and-true _ _ (b .0) in
       rw (field-kept keep buf 4 4 (c .0), field-kept keep buf 8 8 (c .1), field-kept keep buf 16 8 (b .1), field-kept keep buf 24 8 (a .1))
 
-  listed-checks-blind : (q : Request) → readsKept keep q ≡ true → listedChecks q (mask keep buf) (seen e) ≡ listedChecks q buf e
-  unfolding readsKept listedChecks requestedType requestedStart requestedSize requestedIndex seen
-  listed-checks-blind getApiVersion h = refl
-  listed-checks-blind checkExtension h = refl
-  listed-checks-blind setIommu h = rw (field-kept keep buf 0 4 h)
-  listed-checks-blind getIommuInfo h = refl
-  listed-checks-blind mapDma h = rw (length-mask (written (e .memory)) (e .memory .bytes), mapping-blind h)
-  listed-checks-blind unmapDma h =
+  -- a request to the lines: the bytes that it reads are kept
+  irqs-agree : readsKept keep setIrqs ≡ true → ((i : ℕ) → readsData buf i ≡ true → keep i ≡ true) → Agrees buf (mask keep buf)
+  unfolding readsKept mask
+  irqs-agree h covers = record {
+    fields = λ i lt.
+        let e : 0 + i ≡ i = omega arith in
+        sym (getD-kept keep (λ j. 0) buf i (rw e at (keeps-at keep 0 20 i (and-true _ _ (and-true _ _ h .0) .0) lt)));
+    bytes = λ i r. sym (getD-kept keep (λ j. 0) buf i (covers i r));
+  }
+
+  listed-checks-blind : (q : Request) → readsKept keep q ≡ true → ((i : ℕ) → dataOf q buf i ≡ true → keep i ≡ true) → listedChecks q (mask keep buf) (seen e) ≡ listedChecks q buf e
+  unfolding readsKept listedChecks dataOf requestedType requestedStart requestedSize requestedIndex seen
+  listed-checks-blind getApiVersion h covers = refl
+  listed-checks-blind checkExtension h covers = refl
+  listed-checks-blind setIommu h covers = rw (field-kept keep buf 0 4 h)
+  listed-checks-blind getIommuInfo h covers = refl
+  listed-checks-blind mapDma h covers = rw (length-mask (written (e .memory)) (e .memory .bytes), mapping-blind h)
+  listed-checks-blind unmapDma h covers =
       let a = and-true _ _ h in
       let b = and-true _ _ (a .0) in
       rw (field-kept keep buf 4 4 (b .0), field-kept keep buf 8 8 (b .1), field-kept keep buf 16 8 (a .1))
-  listed-checks-blind getInfo h = refl
-  listed-checks-blind getRegionInfo h = rw (field-kept keep buf 8 4 h)
-  listed-checks-blind getIrqInfo h = rw (field-kept keep buf 8 4 h)
-  listed-checks-blind resetDevice h = refl
+  listed-checks-blind getInfo h covers = refl
+  listed-checks-blind getRegionInfo h covers = rw (field-kept keep buf 8 4 h)
+  listed-checks-blind getIrqInfo h covers = rw (field-kept keep buf 8 4 h)
+  listed-checks-blind setIrqs h covers = sym (checks-agree buf (mask keep buf) (irqs-agree h covers))
+  listed-checks-blind resetDevice h covers = refl
 
-  listed-effect-blind : (q : Request) → readsKept keep q ≡ true → listedEffect q (mask keep buf) (seen e) ≡ listedEffect q buf e
-  unfolding readsKept listedEffect requestedType requestedStart requestedSize requestedIndex seen
-  listed-effect-blind getApiVersion h = refl
-  listed-effect-blind checkExtension h = rw (field-kept keep buf 0 4 h)
-  listed-effect-blind setIommu h = rw (field-kept keep buf 0 4 h)
-  listed-effect-blind getIommuInfo h = refl
-  listed-effect-blind mapDma h = rw (mapping-blind h)
-  listed-effect-blind unmapDma h =
+  listed-effect-blind : (q : Request) → readsKept keep q ≡ true → ((i : ℕ) → dataOf q buf i ≡ true → keep i ≡ true) → listedEffect q (mask keep buf) (seen e) ≡ listedEffect q buf e
+  unfolding readsKept listedEffect dataOf requestedType requestedStart requestedSize requestedIndex seen
+  listed-effect-blind getApiVersion h covers = refl
+  listed-effect-blind checkExtension h covers = rw (field-kept keep buf 0 4 h)
+  listed-effect-blind setIommu h covers = rw (field-kept keep buf 0 4 h)
+  listed-effect-blind getIommuInfo h covers = refl
+  listed-effect-blind mapDma h covers = rw (mapping-blind h)
+  listed-effect-blind unmapDma h covers =
       let a = and-true _ _ h in
       let b = and-true _ _ (a .0) in
       rw (field-kept keep buf 8 8 (b .1), field-kept keep buf 16 8 (a .1))
-  listed-effect-blind getInfo h = refl
-  listed-effect-blind getRegionInfo h = rw (field-kept keep buf 8 4 h)
-  listed-effect-blind getIrqInfo h = rw (field-kept keep buf 8 4 h)
-  listed-effect-blind resetDevice h = refl
+  listed-effect-blind getInfo h covers = refl
+  listed-effect-blind getRegionInfo h covers = rw (field-kept keep buf 8 4 h)
+  listed-effect-blind getIrqInfo h covers = rw (field-kept keep buf 8 4 h)
+  listed-effect-blind setIrqs h covers = ap (λ (ls : List Line). leaving (withLines ls (e .machine))) (sym (lines-agree buf (mask keep buf) (e .machine .lines) (irqs-agree h covers)))
+  listed-effect-blind resetDevice h covers = refl
 
   argsz-blind : (t : Bool) (size : ℕ) → pick t (keeps keep 0 4) true ≡ true → argszChecks t size (mask keep buf) ≡ argszChecks t size buf
   unfolding argszChecks pick
@@ -133,42 +149,103 @@ module _ (keep : ℕ → Bool) (buf : List ℕ) (e : Emulator) where
   argsz-blind true size h = rw (field-kept keep buf 0 4 h, length-mask keep buf)
 
 -- what holds of no entry, and of each that reads its input fields alone, holds of the entry that a target and a number have
-entry-by : (P : Option Entry → Type 0) → P none → ((r : Entry) → entryReads r ≡ true → P (some r)) → (rs : List Entry) → allRead rs ≡ true
+entry-by : (buf : List ℕ) (P : Option Entry → Type 0) → P none → ((r : Entry) → entryReads buf r ≡ true → P (some r)) → (rs : List Entry) → allRead buf rs ≡ true
     → (target number : ℕ) → P (entryIn rs target number)
 unfolding entryIn allRead pick
-entry-by P p h [] all target number = p
-entry-by P p h (r ∷ rs) all target number =
+entry-by buf P p h [] all target number = p
+entry-by buf P p h (r ∷ rs) all target number =
     let a = and-true _ _ all in
-    go (eqb (r .target) target and eqb (r .number) number) (h r (a .0)) (entry-by P p h rs (a .1) target number)
+    go (eqb (r .target) target and eqb (r .number) number) (h r (a .0)) (entry-by buf P p h rs (a .1) target number)
   where
     go : (t : Bool) → P (some r) → P (entryIn rs target number) → P (pick t (some r) (entryIn rs target number))
     go true here rest = here
     go false here rest = rest
 
+-- data are input
+data-input : (buf : List ℕ) (r : Entry) (i : ℕ) → dataOf (r .request) buf i ≡ true → inputOf (some r) buf i ≡ true
+unfolding inputOf
+data-input buf r i d = go (inFields (r .input) i) d
+  where
+    go : (s : Bool) {t : Bool} → t ≡ true → (s or t) ≡ true
+    go true e = unfold _or_ in refl
+    go false e = unfold _or_ in e
+
 -- a request's checks and effect, both
 record RequestBlind (buf : List ℕ) (e : Emulator) (o : Option Entry) : Type 0 where
-  its-checks : requestChecks o (mask (inputOf o) buf) (seen e) ≡ requestChecks o buf e
-  its-effect : requestEffect o (mask (inputOf o) buf) (seen e) ≡ requestEffect o buf e
+  its-checks : requestChecks o (mask (inputOf o buf) buf) (seen e) ≡ requestChecks o buf e
+  its-effect : requestEffect o (mask (inputOf o buf) buf) (seen e) ≡ requestEffect o buf e
 
 request-blind : (buf : List ℕ) (e : Emulator) (target number : ℕ) → RequestBlind buf e (identify target number)
-unfolding identify sizeChecks requestChecks requestEffect seen inputOf entryReads
-request-blind buf e = entry-by (RequestBlind buf e) absent listed requests all-read
+unfolding identify sizeChecks requestChecks requestEffect seen entryReads
+request-blind buf e = entry-by buf (RequestBlind buf e) absent listed requests (all-read buf)
   where
     absent : RequestBlind buf e none
     absent = record { its-checks = refl; its-effect = refl }
 
-    listed : (r : Entry) → entryReads r ≡ true → RequestBlind buf e (some r)
+    listed : (r : Entry) → entryReads buf r ≡ true → RequestBlind buf e (some r)
     listed r h =
         let a = and-true _ _ h in
-        let keep : ℕ → Bool = inFields (r .input) in
+        let keep : ℕ → Bool = inputOf (some r) buf in
+        let covers : (i : ℕ) → dataOf (r .request) buf i ≡ true → inputOf (some r) buf i ≡ true = λ i d. data-input buf r i d in
         record {
-          its-checks = rw (length-mask keep buf, argsz-blind keep buf e (r .argsz) (r .size) (a .0), listed-checks-blind keep buf e (r .request) (a .1));
-          its-effect = listed-effect-blind keep buf e (r .request) (a .1);
+          its-checks = rw (length-mask keep buf, argsz-blind keep buf e (r .argsz) (r .size) (a .0), listed-checks-blind keep buf e (r .request) (a .1) covers);
+          its-effect = listed-effect-blind keep buf e (r .request) (a .1) covers;
         }
+
+-- ---- which bytes are input, the input bytes say
+
+irqs-stable : (keep : ℕ → Bool) (w : ℕ → ℕ) (buf : List ℕ) → readsKept keep setIrqs ≡ true → dataOf setIrqs (overwrite keep w buf) ≡ dataOf setIrqs buf
+unfolding readsKept dataOf readsData
+irqs-stable keep w buf h =
+    let p = and-true _ _ h in
+    let new = overwrite keep w buf in
+    ap {B = ℕ → Bool} (λ (n : ℕ) (i : ℕ). leb dataStart i and ltb i (dataStart + n * width (kindOf (flagsOf new)))) (field-over keep w buf 16 4 (p .1))
+    ∙ ap {B = ℕ → Bool} (λ (flags : ℕ) (i : ℕ). leb dataStart i and ltb i (dataStart + countOf buf * width (kindOf flags))) (field-over keep w buf 4 4 (and-true _ _ (p .0) .1))
+
+data-stable : (q : Request) (keep : ℕ → Bool) (w : ℕ → ℕ) (buf : List ℕ) → readsKept keep q ≡ true → dataOf q (overwrite keep w buf) ≡ dataOf q buf
+unfolding dataOf
+data-stable getApiVersion keep w buf h = refl
+data-stable checkExtension keep w buf h = refl
+data-stable setIommu keep w buf h = refl
+data-stable getIommuInfo keep w buf h = refl
+data-stable mapDma keep w buf h = refl
+data-stable unmapDma keep w buf h = refl
+data-stable getInfo keep w buf h = refl
+data-stable getRegionInfo keep w buf h = refl
+data-stable getIrqInfo keep w buf h = refl
+data-stable setIrqs keep w buf h = irqs-stable keep w buf h
+data-stable resetDevice keep w buf h = refl
+
+entry-stable : (w : ℕ → ℕ) (buf : List ℕ) (r : Entry) → entryReads buf r ≡ true → inputOf (some r) (overwrite (inputOf (some r) buf) w buf) ≡ inputOf (some r) buf
+unfolding inputOf entryReads
+entry-stable w buf r h = ap {B = ℕ → Bool} (λ (f : ℕ → Bool) (i : ℕ). inFields (r .input) i or f i) (data-stable (r .request) (inputOf (some r) buf) w buf (and-true _ _ h .1))
+
+request-stable : (w : ℕ → ℕ) (buf : List ℕ) (target number : ℕ) → inputOf (identify target number) (overwrite (inputOf (identify target number) buf) w buf) ≡ inputOf (identify target number) buf
+unfolding identify inputOf
+request-stable w buf = entry-by buf (λ o. inputOf o (overwrite (inputOf o buf) w buf) ≡ inputOf o buf) refl (entry-stable w buf) requests (all-read buf)
+
+-- what others write leaves it as it is
+pub input-stable : (c : Call) (w : ℕ → ℕ) (buf : List ℕ) → input c (overwrite (input c buf) w buf) ≡ input c buf
+unfolding input
+input-stable (powerOn card) w buf = refl
+input-stable (request target number) w buf = request-stable w buf target number
+input-stable (lookUp d) w buf = refl
+input-stable (deviceRead d) w buf = refl
+input-stable (deviceWrite d) w buf = refl
+input-stable (hostWrite a) w buf = refl
+input-stable (hostRead a) w buf = refl
+input-stable (invalidate a n) w buf = refl
+input-stable (setRegister kind selector) w buf = refl
+input-stable (readRegister kind selector) w buf = refl
+input-stable (showLine index i) w buf = refl
+input-stable loadParts w buf = refl
+input-stable saveParts w buf = refl
+input-stable stop w buf = refl
+input-stable start w buf = refl
 
 -- ---- the checks of every call
 
-own-checks-blind : (c : Call) (buf : List ℕ) (e : Emulator) → ownChecks c (mask (input c) buf) (seen e) ≡ ownChecks c buf e
+own-checks-blind : (c : Call) (buf : List ℕ) (e : Emulator) → ownChecks c (mask (input c buf) buf) (seen e) ≡ ownChecks c buf e
 unfolding ownChecks seen input
 own-checks-blind (powerOn card) buf e = refl
 own-checks-blind (request target number) buf e = request-blind buf e target number .its-checks
@@ -180,12 +257,13 @@ own-checks-blind (hostRead a) buf e = simp length-mask
 own-checks-blind (invalidate a n) buf e = simp length-mask
 own-checks-blind (setRegister kind selector) buf e = simp mask-all
 own-checks-blind (readRegister kind selector) buf e = simp length-mask
+own-checks-blind (showLine index i) buf e = refl
 own-checks-blind loadParts buf e = simp mask-all
 own-checks-blind saveParts buf e = simp length-mask
 own-checks-blind stop buf e = refl
 own-checks-blind start buf e = refl
 
-checks-blind : (c : Call) (buf : List ℕ) (e : Emulator) → checks c (mask (input c) buf) (seen e) ≡ checks c buf e
+checks-blind : (c : Call) (buf : List ℕ) (e : Emulator) → checks c (mask (input c buf) buf) (seen e) ≡ checks c buf e
 unfolding checks
 checks-blind c buf e = rw (usable-blind (given c) e, own-checks-blind c buf e)
 
@@ -233,27 +311,28 @@ pub transfer-passed : (fault : Translation → Verdict) (ms : List Mapping) (d :
 unfolding transferChecks
 transfer-passed fault ms d n h = firstFault-all _ n (then-pass _ _ (then-pass _ _ h .1) .1)
 
-effect-blind : (c : Call) (buf : List ℕ) (e : Emulator) → ownChecks c buf e ≡ Pass → effect c (mask (input c) buf) (seen e) ≡ effect c buf e
+effect-blind : (c : Call) (buf : List ℕ) (e : Emulator) → ownChecks c buf e ≡ Pass → effect c (mask (input c buf) buf) (seen e) ≡ effect c buf e
 unfolding effect ownChecks seen input deviceReadChecks bytesFrom written mask
 effect-blind (powerOn card) buf e ok = simp length-mask
 effect-blind (request target number) buf e ok = request-blind buf e target number .its-effect
 effect-blind (lookUp d) buf e ok = refl
 effect-blind (deviceRead d) buf e ok =
-    rw (length-mask (input (deviceRead d)) buf, gather-blind (e .machine .mappings) e (length buf) d (transfer-passed _ _ d (length buf) ok))
+    rw (length-mask (input (deviceRead d) buf) buf, gather-blind (e .machine .mappings) e (length buf) d (transfer-passed _ _ d (length buf) ok))
 effect-blind (deviceWrite d) buf e ok = simp mask-all
 effect-blind (hostWrite a) buf e ok = simp mask-all
 effect-blind (hostRead a) buf e ok =
     let h = host-read-passed _ _ a (length buf) ok in
-    rw (length-mask (input (hostRead a)) buf, part-kept (written (e .memory)) (λ i. 0) (e .memory .bytes) (a .0) (length buf) (h .0) (h .1))
+    rw (length-mask (input (hostRead a) buf) buf, part-kept (written (e .memory)) (λ i. 0) (e .memory .bytes) (a .0) (length buf) (h .0) (h .1))
 effect-blind (invalidate a n) buf e ok = refl
 effect-blind (setRegister kind selector) buf e ok = simp mask-all
 effect-blind (readRegister kind selector) buf e ok = refl
+effect-blind (showLine index i) buf e ok = refl
 effect-blind loadParts buf e ok = simp mask-all
 effect-blind saveParts buf e ok = refl
 effect-blind stop buf e ok = refl
 effect-blind start buf e ok = refl
 
-pub blind : (c : Call) (buf : List ℕ) (e : Emulator) → outcome c (mask (input c) buf) (seen e) ≡ outcome c buf e
+pub blind : (c : Call) (buf : List ℕ) (e : Emulator) → outcome c (mask (input c buf) buf) (seen e) ≡ outcome c buf e
 unfolding outcome checks seen
 blind c buf e =
     outcome-eq _ _ _ _ (e .machine) (probesOf c (e .machine .mappings)) (checks-blind c buf e)

@@ -24,10 +24,11 @@ use Rattle.parts.specs.Load.{Seen, listedChecks as listedPartChecks, partChecks
 use Rattle.parts.specs.Save.{saveChecks}
 use Rattle.parts.specs.declared.Step.{Step}
 use Rattle.parts.specs.declared.Step.the-variants.{Part, End, Refused}
+use Rattle.interrupts.specs.Requests.{setChecks as irqChecks, fieldChecks, dataChecks, showChecks}
 use Rattle.emulator.specs.Machine.{Emulator, emulatorOf}
 use Rattle.emulator.specs.Effect.{effectOf, outcomeOf, after, filled}
-use Rattle.emulator.specs.Requests.{Request, getApiVersion, checkExtension, setIommu, getIommuInfo, mapDma, unmapDma, getInfo, getRegionInfo, getIrqInfo, resetDevice, Entry, argszChecks, listedChecks, sizeChecks, requestChecks}
-use Rattle.emulator.specs.Calls.{Call, powerOn, request, lookUp, deviceRead, deviceWrite, hostWrite, hostRead, invalidate, setRegister, readRegister, loadParts, saveParts, stop, start, ownChecks, checks, effect, outcome}
+use Rattle.emulator.specs.Requests.{Request, getApiVersion, checkExtension, setIommu, getIommuInfo, mapDma, unmapDma, getInfo, getRegionInfo, getIrqInfo, setIrqs, resetDevice, Entry, argszChecks, listedChecks, sizeChecks, requestChecks}
+use Rattle.emulator.specs.Calls.{Call, powerOn, request, lookUp, deviceRead, deviceWrite, hostWrite, hostRead, invalidate, setRegister, readRegister, showLine, loadParts, saveParts, stop, start, ownChecks, checks, effect, outcome}
 use Rattle.emulator.specs.Contract.{Meets, returned, leftRecords}
 use Rattle.emulator.specs.declared.State.{State}
 use Rattle.assurance.specs.Demand1.{Listed, stepVerdict, Unchanged, Demand1}
@@ -42,7 +43,7 @@ argsz-listed false size buf = search listing
 argsz-listed true size buf = search listing
 
 listed-listed : (q : Request) (buf : List ℕ) (e : Emulator) → Listed (listedChecks q buf e)
-unfolding listedChecks setIommuChecks mapChecks unmapChecks
+unfolding listedChecks setIommuChecks mapChecks unmapChecks irqChecks fieldChecks dataChecks
 listed-listed getApiVersion buf e = search listing
 listed-listed checkExtension buf e = search listing
 listed-listed setIommu buf e = search listing
@@ -52,6 +53,7 @@ listed-listed unmapDma buf e = search listing depth 10
 listed-listed getInfo buf e = search listing
 listed-listed getRegionInfo buf e = search listing
 listed-listed getIrqInfo buf e = search listing
+listed-listed setIrqs buf e = search listing depth 12
 listed-listed resetDevice buf e = search listing
 
 request-listed : (o : Option Entry) (buf : List ℕ) (e : Emulator) → Listed (requestChecks o buf e)
@@ -116,7 +118,7 @@ load-listed w running s = onward-listed _ _ (settle-listed _ _ (search listing))
 -- ---- every call
 
 own-checks-listed : (c : Call) (buf : List ℕ) (e : Emulator) → Listed (ownChecks c buf e)
-unfolding ownChecks translateChecks deviceReadChecks deviceWriteChecks transferChecks lengthCheck hostWriteChecks hostReadChecks unwrittenIn unwrittenAt invalidateChecks setChecks selectorChecks readChecks saveChecks
+unfolding ownChecks translateChecks deviceReadChecks deviceWriteChecks transferChecks lengthCheck hostWriteChecks hostReadChecks unwrittenIn unwrittenAt invalidateChecks setChecks selectorChecks readChecks showChecks saveChecks
 own-checks-listed (powerOn card) buf e = search listing
 own-checks-listed (request target number) buf e = request-listed _ buf e
 own-checks-listed (lookUp d) buf e = search listing
@@ -127,6 +129,7 @@ own-checks-listed (hostRead a) buf e = search listing
 own-checks-listed (invalidate a n) buf e = search listing
 own-checks-listed (setRegister kind selector) buf e = search (listing, value-listed) depth 10
 own-checks-listed (readRegister kind selector) buf e = search listing depth 10
+own-checks-listed (showLine index i) buf e = search listing
 own-checks-listed loadParts buf e = load-listed _ _ buf
 own-checks-listed saveParts buf e = search listing
 own-checks-listed stop buf e = search listing

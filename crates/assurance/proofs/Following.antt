@@ -31,16 +31,16 @@ use Rattle.memory.proofs.Marks.{initialized-below}
 use Rattle.dma.specs.Transfers.{readFault, writeFault, deviceReadChecks, deviceWriteChecks, location, gather}
 use Rattle.dma.proofs.Gather.{gather-length}
 use Rattle.registers.specs.declared.Card.{Card}
-use Rattle.emulator.specs.Machine.{Machine, Emulator, both, usable, lendable, sound, soundMappings, poweredOn, withMappings, withRegisters, withRunning, withIommuType}
+use Rattle.emulator.specs.Machine.{Machine, Emulator, both, usable, lendable, sound, soundMappings, poweredOn, withMappings, withRegisters, withRunning, withIommuType, withLines}
 use Rattle.emulator.specs.Effect.{Result, value, Effect, Outcome, effectOf, outcomeOf, after, filled}
-use Rattle.emulator.specs.Requests.{Request, getApiVersion, checkExtension, setIommu, getIommuInfo, mapDma, unmapDma, getInfo, getRegionInfo, getIrqInfo, resetDevice, Entry, identify, requestedMapping, requestedStart, requestedSize, listedChecks, sizeChecks, requestChecks, listedEffect, requestEffect}
-use Rattle.emulator.specs.Calls.{Call, powerOn, request, lookUp, deviceRead, deviceWrite, hostWrite, hostRead, invalidate, setRegister, readRegister, loadParts, saveParts, stop, start, given, input, ownChecks, checks, effect, probesOf, outcome}
+use Rattle.emulator.specs.Requests.{Request, getApiVersion, checkExtension, setIommu, getIommuInfo, mapDma, unmapDma, getInfo, getRegionInfo, getIrqInfo, setIrqs, resetDevice, Entry, identify, requestedMapping, requestedStart, requestedSize, listedChecks, sizeChecks, requestChecks, listedEffect, requestEffect}
+use Rattle.emulator.specs.Calls.{Call, powerOn, request, lookUp, deviceRead, deviceWrite, hostWrite, hostRead, invalidate, setRegister, readRegister, showLine, loadParts, saveParts, stop, start, given, input, ownChecks, checks, effect, probesOf, outcome}
 use Rattle.assurance.specs.Overwrite.{mask}
 use Rattle.assurance.specs.Runs.{Ask, Others, Event, written, disturbed, lentTo, event, turn, run}
 use Rattle.assurance.specs.Ledger.{Bytes, Ledger, empty, ledgerAfterRequest, ledgerAfterListed, ledgerAfter, inputBytes, fed, heldAt, FilledBy, Owed, OwedIf, Follows}
 use Rattle.assurance.proofs.Overwrite.{length-overwrite, overwrite-overwrite, length-mask, getD-kept}
 use Rattle.assurance.proofs.Blind.{seen, blind, read-clear, host-read-passed, transfer-passed}
-use Rattle.assurance.proofs.Agreement.{mask-lent}
+use Rattle.assurance.proofs.Agreement.{mask-over, mask-lent}
 use Rattle.assurance.proofs.Books.{Holds, stores-holds, scatter-holds, clears-holds, cleared-outside}
 
 -- the ledger has the IOMMU type, holds each written byte, and finds each device address in the mapping where the table does
@@ -77,7 +77,7 @@ usable-apart e h = sound-apart _ _ (and-true _ _ (and-true _ _ (and-true _ _ (an
 
 module _ (l : Ledger) (e : Emulator) (buf : List ℕ) (h : Books l e) where
   listed-books : (q : Request) → Apart (e .machine .mappings) → listedChecks q buf e ≡ Pass → Books (ledgerAfterRequest q buf l) (after (listedEffect q buf e) e)
-  unfolding ledgerAfterRequest listedEffect listedChecks after edited withMappings withRegisters withIommuType Apart find mapChecks
+  unfolding ledgerAfterRequest listedEffect listedChecks after edited withMappings withRegisters withIommuType withLines Apart find mapChecks
   listed-books getApiVersion a ok = h
   listed-books checkExtension a ok = h
   listed-books setIommu a ok = record { kind = refl; bytes = h .bytes; maps = h .maps; apart = h .apart }
@@ -105,6 +105,7 @@ module _ (l : Ledger) (e : Emulator) (buf : List ℕ) (h : Books l e) where
   listed-books getInfo a ok = h
   listed-books getRegionInfo a ok = h
   listed-books getIrqInfo a ok = h
+  listed-books setIrqs a ok = record { kind = h .kind; bytes = h .bytes; maps = h .maps; apart = h .apart }
   listed-books resetDevice a ok = record { kind = h .kind; bytes = h .bytes; maps = h .maps; apart = h .apart }
 
   request-books : (o : Option Entry) → Apart (e .machine .mappings) → requestChecks o buf e ≡ Pass → Books (ledgerAfterListed o buf l) (after (requestEffect o buf e) e)
@@ -144,6 +145,7 @@ books-after (invalidate a n) l e buf h good ok =
     }
 books-after (setRegister kind selector) l e buf h good ok = record { kind = h .kind; bytes = h .bytes; maps = h .maps; apart = h .apart }
 books-after (readRegister kind selector) l e buf h good ok = h
+books-after (showLine index i) l e buf h good ok = record { kind = h .kind; bytes = h .bytes; maps = h .maps; apart = h .apart }
 books-after loadParts l e buf h good ok = record { kind = h .kind; bytes = h .bytes; maps = h .maps; apart = h .apart }
 books-after saveParts l e buf h good ok = h
 books-after stop l e buf h good ok = record { kind = h .kind; bytes = h .bytes; maps = h .maps; apart = h .apart }
@@ -191,6 +193,7 @@ owed (hostRead a) l e buf lent p h ok =
 owed (invalidate a n) l e buf lent p h ok = tt
 owed (setRegister kind selector) l e buf lent p h ok = tt
 owed (readRegister kind selector) l e buf lent p h ok = tt
+owed (showLine index i) l e buf lent p h ok = tt
 owed loadParts l e buf lent p h ok = tt
 owed saveParts l e buf lent p h ok = tt
 owed stop l e buf lent p h ok = tt
@@ -203,8 +206,8 @@ lent-outcome : (w : Others) (q : Ask) (e : Emulator) → outcome (q .call) (lent
 unfolding inputBytes mask
 lent-outcome w q e =
     sym (blind (q .call) (lentTo w q) e)
-    ∙ ap (λ (l : List ℕ). outcome (q .call) l (seen e)) (mask-lent w q ∙ sym (overwrite-overwrite (input (q .call)) (λ i. 0) (λ i. 0) (q .buffer)))
-    ∙ blind (q .call) (mask (input (q .call)) (q .buffer)) e
+    ∙ ap (λ (l : List ℕ). outcome (q .call) l (seen e)) (mask-lent w q ∙ sym (mask-over (q .call) (λ i. 0) (q .buffer)))
+    ∙ blind (q .call) (mask (input (q .call) (q .buffer)) (q .buffer)) e
 
 -- one call, by its verdict
 call-follows : (q : Ask) (l : Ledger) (e : Emulator) (lent : List ℕ) → length lent ≡ length (q .buffer) → Books l e
@@ -213,11 +216,11 @@ call-follows : (q : Ask) (l : Ledger) (e : Emulator) (lent : List ℕ) → lengt
 unfolding checks outcomeOf effectOf settle OwedIf fed after edited inputBytes
 call-follows q l e lent p h Pass ok o is =
     let c : Call = q .call in
-    let n : length (mask (input c) (q .buffer)) ≡ length (q .buffer) = length-mask (input c) (q .buffer) in
+    let n : length (mask (input c (q .buffer)) (q .buffer)) ≡ length (q .buffer) = length-mask (input c (q .buffer)) (q .buffer) in
     let t = then-pass _ _ ok in
     rw is (
-      subst (λ (k : ℕ). Owed l c k (filled (effect c (mask (input c) (q .buffer)) e .pieces) lent)) n (owed c l e (mask (input c) (q .buffer)) lent (p ∙ sym n) h (t .1)),
-      books-after c l e (mask (input c) (q .buffer)) h (unless-pass _ _ (t .0)) (t .1),
+      subst (λ (k : ℕ). Owed l c k (filled (effect c (mask (input c (q .buffer)) (q .buffer)) e .pieces) lent)) n (owed c l e (mask (input c (q .buffer)) (q .buffer)) lent (p ∙ sym n) h (t .1)),
+      books-after c l e (mask (input c (q .buffer)) (q .buffer)) h (unless-pass _ _ (t .0)) (t .1),
     )
 call-follows q l e lent p h (Fail code place) ok o is = rw is (tt, h)
 

@@ -33,8 +33,8 @@ use Rattle.memory.proofs.Transfers.{host-write-room, invalidate-room}
 use Rattle.dma.specs.Transfers.{writeFault, deviceWriteChecks, location, scatter}
 use Rattle.emulator.specs.Machine.{Machine, Emulator, machineOf, emulatorOf, both, usable, lendable, lendableRecords, poweredOn, asNoted, sound, soundMappings}
 use Rattle.emulator.specs.Effect.{effectOf, outcomeOf, after}
-use Rattle.emulator.specs.Requests.{Request, getApiVersion, checkExtension, setIommu, getIommuInfo, mapDma, unmapDma, getInfo, getRegionInfo, getIrqInfo, resetDevice, Entry, identify, requestEffect, listedEffect}
-use Rattle.emulator.specs.Calls.{Call, powerOn, request, lookUp, deviceRead, deviceWrite, hostWrite, hostRead, invalidate, setRegister, readRegister, loadParts, saveParts, stop, start, given, ownChecks, checks, effect, outcome}
+use Rattle.emulator.specs.Requests.{Request, getApiVersion, checkExtension, setIommu, getIommuInfo, mapDma, unmapDma, getInfo, getRegionInfo, getIrqInfo, setIrqs, resetDevice, Entry, identify, requestEffect, listedEffect}
+use Rattle.emulator.specs.Calls.{Call, powerOn, request, lookUp, deviceRead, deviceWrite, hostWrite, hostRead, invalidate, setRegister, readRegister, showLine, loadParts, saveParts, stop, start, given, ownChecks, checks, effect, outcome}
 use Rattle.assurance.specs.Packed.{withPacked, PastEnd}
 use Rattle.assurance.proofs.Blind.{first, shift, transfer-passed}
 
@@ -124,6 +124,7 @@ listed-below n unmapDma buf e = tt
 listed-below n getInfo buf e = tt
 listed-below n getRegionInfo buf e = tt
 listed-below n getIrqInfo buf e = tt
+listed-below n setIrqs buf e = tt
 listed-below n resetDevice buf e = tt
 
 request-below : (n : ℕ) (o : Option Entry) (buf : List ℕ) (e : Emulator) → Below n (requestEffect o buf e .edits)
@@ -145,6 +146,7 @@ call-below (hostRead a) buf e good ok = tt
 call-below (invalidate a n) buf e good ok = clears-below _ n a (invalidate-room _ a n ok)
 call-below (setRegister kind selector) buf e good ok = tt
 call-below (readRegister kind selector) buf e good ok = tt
+call-below (showLine index i) buf e good ok = tt
 call-below loadParts buf e good ok = tt
 call-below saveParts buf e good ok = tt
 call-below stop buf e good ok = tt

@@ -46,7 +46,7 @@ loaded : (f : Emulator) (w : ℕ) (file : File) (s : List ℕ) → length file �
     → outcome loadParts s f ≡ record { answer = done (value 0); probes = 0; effect = leaving (withRegisters file (f .machine)) }
 unfolding outcome outcomeOf carried checks ownChecks effect probesOf given usable _then_ _unless_ settle effectOf verdict resultOr RoundTrip sound soundCard
 loaded f w file s long kept is good stopped same =
-    let card : isCard w ≡ true = rw same (and-true _ _ (and-true _ _ (and-true _ _ (and-true _ _ good .0) .0) .0) .0) in
+    let card : isCard w ≡ true = rw same (and-true _ _ (and-true _ _ (and-true _ _ (and-true _ _ (and-true _ _ good .0) .0) .0) .0) .0) in
     let ok : load (f .machine .words) (f .machine .running) s ≡ done file = rw (is, stopped, ← same) (round-trips w card file long kept) in
     rw (good, ok)
 

@@ -1,6 +1,6 @@
 -- The worked values hold: one test that is computed over the whole table, and the law that a passed test is the statement.
 use Prim.Native.Nat.{ℕ}
-use mathlib.Core.Path.{_≡_, refl, ap, ap₂}
+use mathlib.Core.Path.{_≡_, refl, _∙_, ap, ap₂}
 use mathlib.Core.Bool.{Bool, true, false, false≢true}
 use mathlib.Core.List.{List, [], _∷_, _++_}
 use lib.Dec.{eqb}
@@ -29,11 +29,14 @@ use Rattle.registers.specs.Access.{selectorChecks, setChecks}
 use Rattle.parts.specs.Step.{valueSize, headerChecks, partAt, stepOn, partStep, stepAt, valueTo}
 use Rattle.parts.specs.Load.{flagsOf, listedChecks as listedPartChecks, partChecks, named, taken, finish, onStep, loadFrom, load}
 use Rattle.parts.specs.Save.{encoded, partOf, savedFrom, saved, saveChecks}
-use Rattle.emulator.specs.Machine.{lendableRecords, soundMappings, soundLength, soundCard, soundIommuType, soundRegisters, sound, lendable, asNoted, usable, poweredOn, withMappings, withRegisters, withIommuType}
-use Rattle.emulator.specs.Effect.{Result, value, location, effectOf, carried, outcomeOf, after, filled}
+use Rattle.interrupts.specs.Lines.{indexAt, maskable, automasked, countBefore, firstLine, eventNumber, assigned, lower, soundLines, stored, off, withFlags, raised, triggered, withMask, unmasked, disabledLines}
+use Rattle.interrupts.specs.Requests.{oneOfThree, width, eventAt, byteAt, disables, fieldChecks, anyLower, dataChecks, setChecks as irqChecks, acted, selected, changedLine, changedRun, rangeStart, rangeCount, changedLines, showChecks, lineAt}
+use Rattle.interrupts.specs.declared.Line.{Line}
+use Rattle.emulator.specs.Machine.{lendableRecords, soundMappings, soundLength, soundCard, soundIommuType, soundInterrupts, soundRegisters, sound, lendable, asNoted, usable, poweredOn, withMappings, withRegisters, withIommuType, withLines}
+use Rattle.emulator.specs.Effect.{Result, value, location, line, effectOf, carried, outcomeOf, after, filled}
 use Rattle.emulator.specs.Requests.{entryIn, identify, regionAt, requestedType, requestedMapping, requestedStart, requestedSize, requestedIndex, argszChecks, listedChecks, sizeChecks, requestChecks, listedEffect, requestEffect}
 use Rattle.emulator.specs.Calls.{given, ownChecks, checks, located, effect, probesOf, outcome}
-use Rattle.assurance.specs.Starred.{lentRecords, Case, Right, AllRight, none, more, outcomeTo, behind, outcomeIn, mapAt, unmapBuffer, unmapAt, setIommuTo, twoMappings, statusPart, offeredPart, offeredPart128, regionSeven, cases, Starred}
+use Rattle.assurance.specs.Starred.{lentRecords, Case, Right, AllRight, none, more, outcomeTo, behind, outcomeIn, mapAt, unmapBuffer, unmapAt, setIommuTo, setIrqsTo, twoMappings, statusPart, offeredPart, offeredPart128, regionSeven, cases, Starred}
 
 -- ---- the test, and that it tells
 
@@ -42,6 +45,11 @@ sameResult (value m) (value n) = eqb m n
 sameResult (value m) (location b s k) = false
 sameResult (location a r l) (value n) = false
 sameResult (location a r l) (location b s k) = eqb (a .0) (b .0) and eqb r s and eqb l k
+sameResult (line l) (line k) = eqb (l .number) (k .number) and eqb (l .tally) (k .tally) and eqb (l .masked) (k .masked) and eqb (l .pending) (k .pending)
+sameResult (line l) (value n) = false
+sameResult (line l) (location b s k) = false
+sameResult (value m) (line k) = false
+sameResult (location a r l) (line k) = false
 
 sameAnswer : Answer Result → Answer Result → Bool
 sameAnswer (done r) (done s) = sameResult r s
@@ -55,6 +63,11 @@ sameBytes [] (y ∷ ys) = false
 sameBytes (x ∷ xs) [] = false
 sameBytes (x ∷ xs) (y ∷ ys) = eqb x y and sameBytes xs ys
 
+same-line : (l k : Line) → l .number ≡ k .number → l .tally ≡ k .tally → l .masked ≡ k .masked → l .pending ≡ k .pending → line l ≡ line k
+same-line l k n t m p =
+    ap₂ (λ (a b : ℕ). line (record { number = a; tally = b; masked = l .masked; pending = l .pending })) n t
+    ∙ ap₂ (λ (a b : ℕ). line (record { number = k .number; tally = k .tally; masked = a; pending = b })) m p
+
 same-result : (r s : Result) → sameResult r s ≡ true → r ≡ s
 unfolding sameResult
 same-result (value m) (value n) h = ap value (eqb-true m n h)
@@ -64,6 +77,15 @@ same-result (location a r l) (location b s k) h =
     let p = and-true _ _ h in
     let q = and-true _ _ (p .0) in
     rw (eqb-true r s (q .1), eqb-true l k (p .1)) (ap (λ (x : MemoryAddress). location x s k) (ap memoryAddress (eqb-true (a .0) (b .0) (q .0))))
+same-result (line l) (line k) h =
+    let p = and-true _ _ h in
+    let q = and-true _ _ (p .0) in
+    let r = and-true _ _ (q .0) in
+    same-line l k (eqb-true (l .number) (k .number) (r .0)) (eqb-true (l .tally) (k .tally) (r .1)) (eqb-true (l .masked) (k .masked) (q .1)) (eqb-true (l .pending) (k .pending) (p .1))
+same-result (line l) (value n) h = absurd (false≢true h)
+same-result (line l) (location b s k) h = absurd (false≢true h)
+same-result (value m) (line k) h = absurd (false≢true h)
+same-result (location a r l) (line k) h = absurd (false≢true h)
 
 same-answer : (a b : Answer Result) → sameAnswer a b ≡ true → a ≡ b
 unfolding sameAnswer
@@ -103,7 +125,7 @@ all-right (c ∷ cs) h = more (is-right c (and-true _ _ h .0)) (all-right cs (an
 -- ---- the test passes
 
 tested : allRight cases ≡ true
-unfolding sameResult sameAnswer sameBytes right allRight lentRecords outcomeTo behind outcomeIn mapAt unmapBuffer unmapAt setIommuTo twoMappings statusPart offeredPart offeredPart128 regionSeven cases _and_ _or_ pick isSome lengthCheck _then_ _when_ _unless_ _at_ firstFault passes settle _onward_ verdict resultOr isIommuType aligned inDeviceRange inMemoryRange field bytesOf holds addressIn translate mapped validRights readable alignedMapping inRange soundMapping soundMappingsFrom soundTable touches inside beginsIn sticksOut anyOf overlaps cuts blocked removed insert without totalSize setIommuChecks mapChecks unmapChecks initialized marked bit withBit shadowLength edit edited stores clears unwrittenAt hostWriteChecks readFault transferChecks deviceReadChecks kindOf selectorOf widthOf sizeIn sizeOf rowFrom rowOf selects listed selectorWidth offeredWord offered eachWord within powerOfTwo validQueue contentChecks valueChecks current withValue reset soundValue soundValuesFrom soundFile selectorChecks setChecks valueSize headerChecks partAt stepOn partStep stepAt valueTo flagsOf listedPartChecks partChecks named taken finish onStep loadFrom load encoded partOf savedFrom saved saveChecks lendableRecords soundMappings soundLength wordsOf isCard soundCard soundIommuType soundRegisters sound lendable asNoted usable poweredOn withMappings withRegisters withIommuType effectOf outcomeOf after filled entryIn identify regionAt requestedType requestedMapping requestedStart requestedSize requestedIndex argszChecks listedChecks sizeChecks requestChecks listedEffect requestEffect given ownChecks checks effect outcome leftIn translateChecks located carried probesOf middleOf probed searched halved probesFor
+unfolding sameResult sameAnswer sameBytes right allRight lentRecords outcomeTo behind outcomeIn mapAt unmapBuffer unmapAt setIommuTo setIrqsTo twoMappings statusPart offeredPart offeredPart128 regionSeven cases _and_ _or_ pick isSome lengthCheck _then_ _when_ _unless_ _at_ firstFault passes settle _onward_ verdict resultOr isIommuType aligned inDeviceRange inMemoryRange field bytesOf holds addressIn translate mapped validRights readable alignedMapping inRange soundMapping soundMappingsFrom soundTable touches inside beginsIn sticksOut anyOf overlaps cuts blocked removed insert without totalSize setIommuChecks mapChecks unmapChecks initialized marked bit withBit shadowLength edit edited stores clears unwrittenAt hostWriteChecks readFault transferChecks deviceReadChecks kindOf selectorOf widthOf sizeIn sizeOf rowFrom rowOf selects listed selectorWidth offeredWord offered eachWord within powerOfTwo validQueue contentChecks valueChecks current withValue reset soundValue soundValuesFrom soundFile selectorChecks setChecks valueSize headerChecks partAt stepOn partStep stepAt valueTo flagsOf listedPartChecks partChecks named taken finish onStep loadFrom load encoded partOf savedFrom saved saveChecks lendableRecords soundMappings soundLength wordsOf isCard soundCard soundIommuType soundRegisters sound lendable asNoted usable poweredOn withMappings withRegisters withIommuType effectOf outcomeOf after filled entryIn identify regionAt requestedType requestedMapping requestedStart requestedSize requestedIndex argszChecks listedChecks sizeChecks requestChecks listedEffect requestEffect given ownChecks checks effect outcome leftIn translateChecks located carried probesOf middleOf probed searched halved probesFor withLines soundInterrupts indexAt maskable automasked countBefore firstLine eventNumber assigned lower soundLines stored off withFlags raised triggered withMask unmasked disabledLines oneOfThree width eventAt byteAt disables fieldChecks anyLower dataChecks irqChecks acted selected changedLine changedRun rangeStart rangeCount changedLines showChecks lineAt
 tested = refl
 
 pub starred : Starred

@@ -9,6 +9,7 @@ use Rattle.answer.specs.Codes.{BadBench, Unwritten}
 use Rattle.answer.specs.Answer.{Answer, done, refused}
 use Rattle.address.specs.Address.{memoryAddress}
 use Rattle.iommu.specs.Table.{type1v2}
+use Rattle.interrupts.specs.Lines.{disabledLines}
 use Rattle.memory.specs.Shadow.{packed}
 use Rattle.wire.specs.Field.{bytesOf}
 use Rattle.registers.specs.File.{blank}
@@ -26,7 +27,7 @@ filledWith x =
     record {
       memory = record { bytes = replicate 8 x; shadow = packed 8 (255 ∷ []) };
       room = 0;
-      machine = record { memoryLength = 8; count = 0; mappings = []; registers = blank; running = true; words = 1; iommuType = type1v2 };
+      machine = record { memoryLength = 8; count = 0; mappings = []; registers = blank; running = true; words = 1; iommuType = type1v2; lines = disabledLines };
     }
 
 -- what others write, before each call, at unwritten address a and at stale offset i

@@ -42,7 +42,7 @@ disturbed w room e =
 
 -- the buffer as the call gets it
 unfoldable pub lentTo : Others → Ask → List ℕ
-lentTo w q = overwrite (input (q .call)) (w .buffer) (q .buffer)
+lentTo w q = overwrite (input (q .call) (q .buffer)) (w .buffer) (q .buffer)
 
 -- what came of one call: all that it answered and wrote, its whole buffer, and the emulator that it left
 pub record Event : Type 0 where

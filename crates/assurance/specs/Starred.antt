@@ -1,11 +1,11 @@
--- The worked values of rules 7.1 to 7.12, 7.19 to 7.22 and 7.26 to 7.34, and some of rules 1.19 and 3.24, as one table under one statement
+-- The worked values of rules 7.1 to 7.12, 7.19 to 7.22 and 7.26 to 7.36, and some of rules 1.19, 3.24 and 4.14, as one table under one statement
 -- (rule 8.5).
 use Prim.Native.Nat.{ℕ, _+_, _-_, _/_, _^_}
 use mathlib.Core.Path.{_≡_}
 use mathlib.Core.Bool.{Bool}
 use mathlib.Core.List.{List, [], _∷_, _++_}
 use lib.ListN.{length, replicate}
-use Rattle.answer.specs.Codes.{BadBench, Flags, Empty, Range, Overlap, NoRoom, Cuts, Unmapped, Unwritten, Twice, Value, Mismatch, Missing}
+use Rattle.answer.specs.Codes.{BadBench, Flags, Index, Empty, Range, Overlap, NoRoom, Cuts, Unmapped, Unwritten, Twice, Value, Mismatch, Missing}
 use Rattle.answer.specs.Answer.{Answer, done, refused}
 use Rattle.address.specs.Address.{page, deviceLimit, deviceAddress, memoryAddress}
 use Rattle.memory.specs.Shadow.{packed}
@@ -13,10 +13,11 @@ use Rattle.wire.specs.Field.{bytesOf}
 use Rattle.registers.specs.Rows.{DriverFeatures, QueueConfig}
 use Rattle.registers.specs.declared.Card.{Card}
 use Rattle.registers.specs.declared.Card.the-variants.{Features64, Features128}
+use Rattle.interrupts.specs.Lines.{off}
 use Rattle.emulator.specs.Machine.{Emulator, poweredOn}
-use Rattle.emulator.specs.Effect.{Result, value, location, Outcome, after, filled}
+use Rattle.emulator.specs.Effect.{Result, value, location, line, Outcome, after, filled}
 use Rattle.emulator.specs.Requests.{container, device}
-use Rattle.emulator.specs.Calls.{Call, powerOn, request, lookUp, deviceRead, hostWrite, setRegister, loadParts, saveParts, stop, outcome}
+use Rattle.emulator.specs.Calls.{Call, powerOn, request, lookUp, showLine, deviceRead, hostWrite, setRegister, loadParts, saveParts, stop, outcome}
 use Rattle.assurance.specs.Runs.{Ask}
 
 -- an emulator that is lent so many records
@@ -88,6 +89,11 @@ unmapAt d n = request container 114 lent unmapBuffer d n
 -- request 102 with a number
 unfoldable pub setIommuTo : ℕ → Ask
 setIommuTo kind = request container 102 lent bytesOf 4 kind
+
+-- request 110 with flags, index, start, count and data
+unfoldable pub setIrqsTo : ℕ → ℕ → ℕ → ℕ → List ℕ → Ask
+setIrqsTo flags index start count bytes =
+    request device 110 lent bytesOf 4 (20 + length bytes) ++ bytesOf 4 flags ++ bytesOf 4 index ++ bytesOf 4 start ++ bytesOf 4 count ++ bytes
 
 -- [0, 8192) and [8192, 12288), as rules 7.8 and 7.9 have them
 unfoldable pub twoMappings : List Ask
@@ -207,6 +213,19 @@ cases =
     -- rule 1.19: a reset keeps the type, and a fresh start sets Type1v2
     ∷ record { card = Features64; before = setIommuTo 1 ∷ (request device 111 lent []) ∷ twoMappings; ask = unmapAt 0 4096; answer = gives 0; probes = 0; leaves = unmapBuffer 0 8192 }
     ∷ answers (setIommuTo 1 ∷ (powerOn Features64 lent []) ∷ twoMappings) (unmapAt 0 4096) (refused Cuts 0)
+    -- rule 7.35: masked while triggered twice, a line only becomes pending; unmasked, it is triggered once, and masked again by its index
+    ∷ answers (setIrqsTo 36 0 0 1 (bytesOf 4 5) ∷ setIrqsTo 9 0 0 1 [] ∷ setIrqsTo 33 0 0 1 [] ∷ setIrqsTo 33 0 0 1 [] ∷ []) (showLine 0 0 lent []) (done (line (record { number = 5; tally = 0; masked = 1; pending = 1 })))
+    ∷ answers (setIrqsTo 36 0 0 1 (bytesOf 4 5) ∷ setIrqsTo 9 0 0 1 [] ∷ setIrqsTo 33 0 0 1 [] ∷ setIrqsTo 33 0 0 1 [] ∷ setIrqsTo 17 0 0 1 [] ∷ []) (showLine 0 0 lent [])
+    (done (line (record { number = 5; tally = 1; masked = 1; pending = 0 })))
+    -- rule 7.36: past the index is 9 and comes before 8; to disable an index takes any start in it
+    ∷ answers [] (setIrqsTo 33 1 9 0 []) (refused Range 0)
+    ∷ answers [] (setIrqsTo 34 1 8 0 []) (refused Empty 0)
+    ∷ answers (setIrqsTo 36 1 0 1 (bytesOf 4 5) ∷ setIrqsTo 33 1 3 0 [] ∷ []) (showLine 1 0 lent []) (done (line off))
+    -- rule 3.29: a reset disables every line
+    ∷ answers (setIrqsTo 36 1 0 1 (bytesOf 4 5) ∷ (request device 111 lent []) ∷ []) (showLine 1 0 lent []) (done (line off))
+    -- rule 4.14: no such line
+    ∷ answers [] (showLine 3 0 lent []) (refused Index 0)
+    ∷ answers [] (showLine 1 8 lent []) (refused Index 0)
     ∷ []
 
 -- The statement: all of them are right. proofs/Starred.antt has its term.

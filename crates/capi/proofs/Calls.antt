@@ -7,6 +7,7 @@ use mathlib.Core.List.{List, [], _∷_}
 use lib.ListN.{length, getD}
 use lib.Dec.{ltb, eqb}
 use borrow.Author.Tests.{eqb-true, eq-eqb, ltb-true, ltb-false, le-leb}
+use Rattle.wire.specs.Field.{field}
 use Rattle.answer.specs.Tests.{_and_, pick, flagByte}
 use Rattle.answer.specs.Codes.{BadBench}
 use Rattle.answer.specs.Checks.{_then_, _unless_, passes}
@@ -36,11 +37,13 @@ use Rattle.registers.specs.Cards.{isCard}
 use Rattle.registers.specs.File.{reset, slotsOf}
 use Rattle.registers.specs.declared.Card.{Card}
 use Rattle.registers.specs.declared.Registers.{Registers}
+use Rattle.interrupts.specs.Lines.{disabledLines}
+use Rattle.interrupts.specs.declared.Lines.{Lines}
 use Rattle.emulator.specs.Machine.{machineOf, emulatorOf, both, sound, lendable, lendableRecords, usable, poweredOn}
 use Rattle.emulator.specs.Effect.{Result, value}
 use Rattle.emulator.specs.Requests.{Request, resetDevice, sizeChecks}
 use Rattle.emulator.specs.Calls.{powerOn, request, deviceRead, deviceWrite, setRegister, loadParts, stop, start, given}
-use Rattle.emulator.specs.Contract.{everything, stateWith, withRegistersIn, withRunningIn, runCall, told, Meets, MeetsAlone}
+use Rattle.emulator.specs.Contract.{everything, stateWith, withRegistersIn, withRunningIn, withLinesIn, runCall, told, Meets, MeetsAlone}
 use Rattle.emulator.specs.declared.State.{State}
 use Rattle.emulator.specs.declared.Changed.{Changed}
 use Rattle.emulator.proofs.Meets.{bad-bench}
@@ -49,11 +52,11 @@ use Rattle.emulator.proofs.PowerOn.{power-refused, power-done}
 use Rattle.emulator.proofs.Running.{run-bad, run-set}
 use Rattle.emulator.proofs.DeviceTransfers.{read-refused, read-done, write-refused, write-done}
 use Rattle.vfio.specs.Entries.{entryOf, entryAt}
-use Rattle.vfio.specs.Handlers.{Replies, Admits, Answered, setIommuIndex, mapIndex, unmapIndex, resetIndex}
+use Rattle.vfio.specs.Handlers.{Replies, Admits, Answered, setIommuIndex, mapIndex, unmapIndex, setIrqsIndex, resetIndex}
 use Rattle.vfio.specs.declared.Admission.{Admission}
 use Rattle.vfio.specs.declared.Map.{Map}
 use Rattle.vfio.proofs.Handlers.{reset-done}
-use Rattle.vfio.proofs.Entries.{size-room}
+use Rattle.vfio.proofs.Entries.{size-room, argsz-given}
 use Rattle.vfio.proofs.Requests.{request-refused, admitted-good, admitted-size, handled-meets}
 use Rattle.capi.specs.Structs.{success, refusal, answerStruct, doneIf, keptBy}
 use Rattle.capi.specs.Contract.{Tells, TellsAlone, FindsAt, IsNot, Fits, Replied, Handled, Judged}
@@ -290,6 +293,10 @@ module _ (a : Admission) (buf : List ℕ) (s : State) (rs : List Mapping) where
     pub size-asks : (a .verdict ≡ Pass → sizeChecks (entryAt (a .index)) buf ≡ Pass) → go ≡ true → entryOf k .size ≤ length buf
     size-asks fits h = let at = admitted-at h in size-room buf (a .index) k (at .1) (fits (at .0))
 
+    -- one that looks at argsz and at data behind its fields
+    pub data-asks : (a .verdict ≡ Pass → sizeChecks (entryAt (a .index)) buf ≡ Pass) → entryOf k .argsz ≡ true → go ≡ true → (entryOf k .size ≤ length buf) × (field buf 0 4 ≤ length buf)
+    data-asks fits argsz h = let at = admitted-at h in (size-asks fits h, argsz-given buf (a .index) k (at .1) argsz (fits (at .0)))
+
     -- one that changes the table
     pub table-asks : Fits a buf s rs → go ≡ true → (sound (length rs) (machineOf s rs) ≡ true) × (entryOf k .size ≤ length buf)
     table-asks fits h = (fits (admitted-at h .0) .0, size-asks (λ v. fits v .1) h)
@@ -302,19 +309,19 @@ module _ (a : Admission) (buf : List ℕ) (s : State) (rs : List Mapping) where
         record { answer = x; struct = f; handled = λ v. rw same replies; not = λ code place g. never code place (sym g ∙ at .0) }
 
   module _ (o : Outcome) (buf′ : List ℕ) (replied : Replied a buf o buf′) {wipe : Bool} (resets : wipe ≡ (passes (a .verdict) and eqb (a .index) resetIndex)) where
-    pub resets-all : wipe ≡ true → (r : Registers) → r .slots ≡ slotsOf reset → Handled a buf s rs o buf′ (withRegistersIn r s) rs
-    resets-all h r e =
+    pub resets-all : wipe ≡ true → (r : Registers) → r .slots ≡ slotsOf reset → (ls : Lines) → ls .lines ≡ disabledLines → Handled a buf s rs o buf′ (withLinesIn ls (withRegistersIn r s)) rs
+    resets-all h r e ls f =
         let at = admitted-at resetIndex resets h in
         let x = replied .answered .plain (at .0) .reset (at .1) in
-        rw (x .1) (handles resetIndex resets h resetDevice refl (done (value 0)) buf (withRegistersIn r s) rs (reset-done buf s rs r e) o (replied .struct ∙ ap (λ (y : Answer Result). answerStruct y) (x .0)))
+        rw (x .1) (handles resetIndex resets h resetDevice refl (done (value 0)) buf (withLinesIn ls (withRegistersIn r s)) rs (reset-done buf s rs r e ls f) o (replied .struct ∙ ap (λ (y : Answer Result). answerStruct y) (x .0)))
 
     -- every other that changes nothing: refused by checks 1 to 4, or answered by its buffer alone
-    pub answers : wipe ≡ false → IsNot setIommuIndex a → IsNot mapIndex a → IsNot unmapIndex a → Handled a buf s rs o buf′ s rs
-    answers h set map unmap =
+    pub answers : wipe ≡ false → IsNot setIommuIndex a → IsNot mapIndex a → IsNot unmapIndex a → IsNot setIrqsIndex a → Handled a buf s rs o buf′ s rs
+    answers h set map unmap irqs =
         record {
           answer = replied .answer;
           struct = replied .struct;
-          handled = λ v m noted. replied .answered .plain v .other (set v) (map v) (unmap v) (is-not resetIndex resets h v) s rs m;
+          handled = λ v m noted. replied .answered .plain v .other (set v) (map v) (unmap v) (irqs v) (is-not resetIndex resets h v) s rs m;
           not = λ code place f. let x = replied .answered .not code place f in (x .0, x .1, refl, refl);
         }
 

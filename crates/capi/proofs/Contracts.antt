@@ -22,10 +22,10 @@ use Rattle.dma.specs.Walk.{Ready}
 use Rattle.registers.specs.declared.Card.the-variants.{Features64, Features128}
 use Rattle.emulator.specs.Requests.{sizeChecks}
 use Rattle.vfio.specs.Entries.{entryAt}
-use Rattle.vfio.specs.Handlers.{setIommuIndex, mapIndex, unmapIndex}
+use Rattle.vfio.specs.Handlers.{setIommuIndex, mapIndex, unmapIndex, setIrqsIndex}
 use Rattle.emulator.specs.Calls.{powerOn, request, deviceRead, deviceWrite, hostWrite, hostRead, invalidate, setRegister, readRegister, loadParts, saveParts, stop, start}
 use Rattle.emulator.proofs.Contracts.{state}
-use Rattle.capi.specs.Contract.{Tells, TellsAlone, FindsAt, IsNot, Fits, Handled, Judged}
+use Rattle.capi.specs.Contract.{Tells, TellsAlone, FindsAt, ShowsLine, IsNot, Fits, Handled, Judged}
 use Rattle.capi.proofs.done_if.Kinds as done-if-kinds
 use Rattle.capi.proofs.done_if.Reads as done-if-reads
 use Rattle.capi.proofs.device_at.Kinds as device-at-kinds
@@ -35,11 +35,15 @@ use Rattle.capi.proofs.mapped.Reads as mapped-reads
 use Rattle.capi.proofs.unmapped.Kinds as unmapped-kinds
 use Rattle.capi.proofs.unmapped.Reads as unmapped-reads
 use Rattle.capi.proofs.iommu_set.Kinds as iommu-set-kinds
+use Rattle.capi.proofs.irqs_set.Kinds as irqs-set-kinds
 use Rattle.capi.proofs.iommu_set.Reads as iommu-set-reads
+use Rattle.capi.proofs.irqs_set.Reads as irqs-set-reads
 use Rattle.capi.proofs.answered.Kinds as answered-kinds
 use Rattle.capi.proofs.answered.Reads as answered-reads
 use Rattle.capi.proofs.found_at.Kinds as found-at-kinds
+use Rattle.capi.proofs.line_shown.Kinds as line-shown-kinds
 use Rattle.capi.proofs.found_at.Reads as found-at-reads
+use Rattle.capi.proofs.line_shown.Reads as line-shown-reads
 use Rattle.capi.proofs.place_of.Kinds as place-of-kinds
 use Rattle.capi.proofs.place_of.Reads as place-of-reads
 use Rattle.capi.proofs.goes_ahead.Kinds as goes-ahead-kinds
@@ -95,19 +99,29 @@ use Rattle.vfio.proofs.maps.Reads as maps-reads
 use Rattle.vfio.proofs.unmaps.Kinds as unmaps-kinds
 use Rattle.vfio.proofs.unmaps.Reads as unmaps-reads
 use Rattle.vfio.proofs.sets_iommu.Kinds as sets-iommu-kinds
+use Rattle.vfio.proofs.sets_irqs.Kinds as sets-irqs-kinds
 use Rattle.vfio.proofs.sets_iommu.Reads as sets-iommu-reads
+use Rattle.vfio.proofs.sets_irqs.Reads as sets-irqs-reads
 use Rattle.vfio.proofs.plan_iommu.Kinds as plan-iommu-kinds
+use Rattle.vfio.proofs.plan_irqs.Kinds as plan-irqs-kinds
 use Rattle.vfio.proofs.plan_iommu.Reads as plan-iommu-reads
+use Rattle.vfio.proofs.plan_irqs.Reads as plan-irqs-reads
 use Rattle.vfio.proofs.kept_type.Kinds as kept-type-kinds
+use Rattle.vfio.proofs.kept_lines.Kinds as kept-lines-kinds
 use Rattle.vfio.proofs.kept_type.Reads as kept-type-reads
+use Rattle.vfio.proofs.kept_lines.Reads as kept-lines-reads
 use Rattle.vfio.proofs.resets.Kinds as resets-kinds
 use Rattle.vfio.proofs.resets.Reads as resets-reads
 use Rattle.registers.proofs.reset.Kinds as reset-kinds
 use Rattle.registers.proofs.reset.Reads as reset-reads
+use Rattle.interrupts.proofs.disabled.Kinds as disabled-kinds
+use Rattle.interrupts.proofs.disabled.Reads as disabled-reads
 use Rattle.capi.proofs.Outcome as outcome-type
 use Rattle.capi.proofs.Outcome.Laws as outcome-laws
 use Rattle.capi.proofs.Found as finding-type
 use Rattle.capi.proofs.Found.Laws as finding-laws
+use Rattle.capi.proofs.ShownLine as showing-type
+use Rattle.capi.proofs.ShownLine.Laws as showing-laws
 use Rattle.capi.proofs.LoadReply as loading-type
 use Rattle.capi.proofs.LoadReply.Laws as loading-laws
 use Rattle.dma.proofs.Checked as checked-type
@@ -124,6 +138,9 @@ outcome = record { type = outcome-type.the-type; laws = outcome-laws.the-laws; c
 
 abbrev pub finding : Struct
 finding = record { type = finding-type.the-type; laws = finding-laws.the-laws; copy = finding-laws.the-copy; plain = finding-laws.the-plain; one = refl }
+
+abbrev pub showing : Struct
+showing = record { type = showing-type.the-type; laws = showing-laws.the-laws; copy = showing-laws.the-copy; plain = showing-laws.the-plain; one = refl }
 
 abbrev pub loading : Struct
 loading = record { type = loading-type.the-type; laws = loading-laws.the-laws; copy = loading-laws.the-copy; plain = loading-laws.the-plain; one = refl }
@@ -154,11 +171,17 @@ unmapped = record { params = unmapped-kinds.ps; result = unmapped-kinds.r; asked
 abbrev pub iommu-set : Promise 0
 iommu-set = record { params = iommu-set-kinds.ps; result = iommu-set-kinds.r; asked = iommu-set-reads.Asked; promised = iommu-set-reads.Learnt }
 
+abbrev pub irqs-set : Promise 0
+irqs-set = record { params = irqs-set-kinds.ps; result = irqs-set-kinds.r; asked = irqs-set-reads.Asked; promised = irqs-set-reads.Learnt }
+
 abbrev pub answered : Promise 1
 answered = record { params = answered-kinds.ps; result = answered-kinds.r; asked = answered-reads.Asked; promised = answered-reads.Learnt }
 
 abbrev pub found-at : Promise 0
 found-at = record { params = found-at-kinds.ps; result = found-at-kinds.r; asked = found-at-reads.Asked; promised = found-at-reads.Learnt }
+
+abbrev pub line-shown : Promise 0
+line-shown = record { params = line-shown-kinds.ps; result = line-shown-kinds.r; asked = line-shown-reads.Asked; promised = line-shown-reads.Learnt }
 
 abbrev pub place-of : Promise 0
 place-of = record { params = place-of-kinds.ps; result = place-of-kinds.r; asked = place-of-reads.Asked; promised = place-of-reads.Learnt }
@@ -244,17 +267,29 @@ unmaps = record { params = unmaps-kinds.ps; result = unmaps-kinds.r; asked = unm
 abbrev pub sets-iommu : Promise 0
 sets-iommu = record { params = sets-iommu-kinds.ps; result = sets-iommu-kinds.r; asked = sets-iommu-reads.Asked; promised = sets-iommu-reads.Learnt }
 
+abbrev pub sets-irqs : Promise 0
+sets-irqs = record { params = sets-irqs-kinds.ps; result = sets-irqs-kinds.r; asked = sets-irqs-reads.Asked; promised = sets-irqs-reads.Learnt }
+
 abbrev pub plan-iommu : Promise 1
 plan-iommu = record { params = plan-iommu-kinds.ps; result = plan-iommu-kinds.r; asked = plan-iommu-reads.Asked; promised = plan-iommu-reads.Learnt }
 
+abbrev pub plan-irqs : Promise 1
+plan-irqs = record { params = plan-irqs-kinds.ps; result = plan-irqs-kinds.r; asked = plan-irqs-reads.Asked; promised = plan-irqs-reads.Learnt }
+
 abbrev pub kept-type : Promise 0
 kept-type = record { params = kept-type-kinds.ps; result = kept-type-kinds.r; asked = kept-type-reads.Asked; promised = kept-type-reads.Learnt }
+
+abbrev pub kept-lines : Promise 0
+kept-lines = record { params = kept-lines-kinds.ps; result = kept-lines-kinds.r; asked = kept-lines-reads.Asked; promised = kept-lines-reads.Learnt }
 
 abbrev pub resets : Promise 0
 resets = record { params = resets-kinds.ps; result = resets-kinds.r; asked = resets-reads.Asked; promised = resets-reads.Learnt }
 
 abbrev pub reset : Promise 0
 reset = record { params = reset-kinds.ps; result = reset-kinds.r; asked = reset-reads.Asked; promised = reset-reads.Learnt }
+
+abbrev pub disabled : Promise 0
+disabled = record { params = disabled-kinds.ps; result = disabled-kinds.r; asked = disabled-reads.Asked; promised = disabled-reads.Learnt }
 
 -- ---- functions on the state and the records that are lent
 
@@ -276,6 +311,14 @@ glint-power-on-128 = record {
 
 abbrev pub answer-request : Promise 2
 answer-request = record {
+  params = lentOne state 0 tt ∷ by-value admission ∷ pMutS bytes 1 tt ∷ [];
+  result = returned outcome;
+  asked = λ κs a. (a .1 .0 .verdict ≡ Pass → sizeChecks (entryAt (a .1 .0 .index)) (a .1 .1 .0 .now) ≡ Pass);
+  promised = λ κs a r e. ((rs : List MappingRecord) → IsNot setIommuIndex (a .1 .0) → IsNot mapIndex (a .1 .0) → IsNot unmapIndex (a .1 .0) → IsNot setIrqsIndex (a .1 .0) → Handled (a .1 .0) (a .1 .1 .0 .now) (a .0 .now) rs r (e .1 .1 .0 .now) (e .0 .now) rs);
+}
+
+abbrev pub irqs-or-answer : Promise 2
+irqs-or-answer = record {
   params = lentOne state 0 tt ∷ by-value admission ∷ pMutS bytes 1 tt ∷ [];
   result = returned outcome;
   asked = λ κs a. (a .1 .0 .verdict ≡ Pass → sizeChecks (entryAt (a .1 .0 .index)) (a .1 .1 .0 .now) ≡ Pass);
@@ -320,6 +363,14 @@ glint-look-up = record {
   result = returned finding;
   asked = λ κs a. Unit {0};
   promised = λ κs a r e. FindsAt (deviceAddress (a .1 .1 .0)) (a .0 .now) (a .1 .0 .now) r;
+}
+
+abbrev pub glint-show-line : Promise 2
+glint-show-line = record {
+  params = sharedOne state 0 tt ∷ shared mapping 1 tt ∷ pNum w32 ∷ pNum w32 ∷ [];
+  result = returned showing;
+  asked = λ κs a. Unit {0};
+  promised = λ κs a r e. ShowsLine (a .1 .1 .0) (a .1 .1 .1 .0) (a .0 .now) (a .1 .0 .now) r;
 }
 
 abbrev pub check-transfer : Promise 3

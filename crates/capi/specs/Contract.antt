@@ -17,17 +17,18 @@ use Rattle.wire.specs.Field.{slice}
 use Rattle.emulator.specs.Machine.{machineOf, emulatorOf, sound}
 use Rattle.emulator.specs.Requests.{sizeChecks}
 use Rattle.emulator.specs.Effect.{Result}
-use Rattle.emulator.specs.Calls.{Call, lookUp, outcome}
+use Rattle.emulator.specs.Calls.{Call, lookUp, showLine, outcome}
 use Rattle.emulator.specs.Contract.{Meets}
 use Rattle.emulator.specs.declared.State.{State}
 use Rattle.parts.specs.Step.{stepAt, valueAt}
 use Rattle.vfio.specs.Entries.{entryOf, entryAt}
 use Rattle.vfio.specs.Handlers.{Answered, Replies}
 use Rattle.vfio.specs.declared.Admission.{Admission}
-use Rattle.capi.specs.Structs.{answerStruct, foundStruct, stepStruct}
+use Rattle.capi.specs.Structs.{answerStruct, foundStruct, lineStruct, stepStruct}
 use Rattle.capi.specs.declared.Found.{Found}
 use Rattle.capi.specs.declared.Outcome.{Outcome}
 use Rattle.capi.specs.declared.PartStep.{PartStep}
+use Rattle.capi.specs.declared.ShownLine.{ShownLine}
 
 -- The struct `r` is the one that `shape` makes of the outcome's answer, and all else is left as the outcome says.
 pub record Returns {A : Type 0} (shape : Answer Result → A) (c : Call) (buf : List ℕ) (s : State) (rs : List Mapping) (m : Memory) (r : A) (buf′ : List ℕ) (m′ : Memory) (s′ : State)
@@ -46,6 +47,10 @@ TellsAlone c buf s rs r buf′ s′ rs′ = (m : Memory) → Tells c buf s rs m 
 -- look-up, which answers by a struct of its own
 abbrev pub FindsAt : DeviceAddress → State → List Mapping → Found → Type 0
 FindsAt d s rs r = (m : Memory) → Returns (λ a. foundStruct a (outcome (lookUp d) [] (emulatorOf s rs m) .probes)) (lookUp d) [] s rs m r [] m s rs
+
+-- showing a line, likewise
+abbrev pub ShowsLine : ℕ → ℕ → State → List Mapping → ShownLine → Type 0
+ShowsLine index i s rs r = (m : Memory) → Returns lineStruct (showLine index i) [] s rs m r [] m s rs
 
 -- an admitted request that maps nothing, in numbers
 pub record Replied (a : Admission) (buf : List ℕ) (r : Outcome) (buf′ : List ℕ) : Type 0 where

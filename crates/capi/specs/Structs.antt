@@ -1,10 +1,11 @@
 -- Answers as C has them (rule 8.11). Each definition gives a struct whole: what an answer has no use for is 0.
 use Prim.Native.Nat.{ℕ, _+_, _-_}
 use mathlib.Core.Bool.{Bool, true, false, not, cond}
+use Rattle.answer.specs.Tests.{flagged}
 use Rattle.answer.specs.Codes.{BadBench}
 use Rattle.answer.specs.Answer.{Answer, done, refused}
 use Rattle.address.specs.Address.{memoryAddress}
-use Rattle.emulator.specs.Effect.{Result, value, location}
+use Rattle.emulator.specs.Effect.{Result, value, location, line}
 use Rattle.emulator.specs.Contract.{withRegistersIn}
 use Rattle.emulator.specs.declared.State.{State}
 use Rattle.parts.specs.Step.{headerSize}
@@ -15,6 +16,7 @@ use Rattle.capi.specs.declared.Outcome.{Outcome}
 use Rattle.capi.specs.declared.Found.{Found}
 use Rattle.capi.specs.declared.LoadReply.{LoadReply}
 use Rattle.capi.specs.declared.PartStep.{PartStep}
+use Rattle.capi.specs.declared.ShownLine.{ShownLine}
 
 abbrev pub success : ℕ → Outcome
 success n = record { refused = false; code = 0; place = 0; result = n }
@@ -26,6 +28,7 @@ refusal code place = record { refused = true; code = code; place = place; result
 abbrev pub answerStruct : Answer Result → Outcome
 answerStruct (done (value n)) = success n
 answerStruct (done (location a rights left)) = success 0
+answerStruct (done (line l)) = success 0
 answerStruct (refused code place) = refusal code place
 
 -- a call that is done wherever refusal 1 passes
@@ -36,7 +39,18 @@ doneIf ok = cond ok (success 0) (refusal BadBench 0)
 abbrev pub foundStruct : Answer Result → ℕ → Found
 foundStruct (done (value n)) probes = record { outcome = success n; address = memoryAddress 0; rights = 0; left = 0; probes = probes }
 foundStruct (done (location a rights left)) probes = record { outcome = success 0; address = a; rights = rights; left = left; probes = probes }
+foundStruct (done (line l)) probes = record { outcome = success 0; address = memoryAddress 0; rights = 0; left = 0; probes = probes }
 foundStruct (refused code place) probes = record { outcome = refusal code place; address = memoryAddress 0; rights = 0; left = 0; probes = probes }
+
+-- what is shown of a line
+abbrev pub noLine : Outcome → ShownLine
+noLine o = record { outcome = o; number = 0; tally = 0; masked = false; pending = false }
+
+abbrev pub lineStruct : Answer Result → ShownLine
+lineStruct (done (value n)) = noLine (success n)
+lineStruct (done (location a rights left)) = noLine (success 0)
+lineStruct (done (line l)) = record { outcome = success 0; number = l .number; tally = l .tally; masked = flagged (l .masked); pending = flagged (l .pending) }
+lineStruct (refused code place) = noLine (refusal code place)
 
 -- a step that found no part: refused, or at the end; the walk goes on at `next`
 abbrev pub noPart : Bool → ℕ → ℕ → ℕ → PartStep

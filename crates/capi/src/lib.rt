@@ -8,7 +8,9 @@ use answer::Verdict;
 use dma::Checked;
 use emulator::Changed;
 use emulator::Location;
+use emulator::Shown;
 use emulator::State;
+use interrupts::Lines;
 use iommu::Mapping;
 use iommu::Search;
 use iommu::Unmap;
@@ -17,6 +19,7 @@ use registers::Card;
 use registers::Registers;
 use vfio::Admission;
 use vfio::IommuChange;
+use vfio::IrqChange;
 use vfio::Map;
 ghost use mathlib.Core.Path.{_≡_};
 ghost use mathlib.Core.Bool.{true, false, not};
@@ -41,12 +44,12 @@ ghost use Rattle.emulator.specs.Machine.{machineOf, emulatorOf, both as stateAn
 ghost use Rattle.emulator.specs.Effect.{value};
 ghost use Rattle.emulator.specs.Requests.{sizeChecks};
 ghost use Rattle.emulator.specs.Calls.{powerOn, request, deviceRead, deviceWrite, hostWrite, hostRead, invalidate, setRegister, readRegister, loadParts, saveParts, stop, start};
-ghost use Rattle.emulator.specs.Contract.{lentMemory, leftMemory, remarkedMemory, told, toldLocation, toldProbes};
+ghost use Rattle.emulator.specs.Contract.{lentMemory, leftMemory, remarkedMemory, told, toldLocation, toldProbes, toldLine};
 ghost use Rattle.emulator.specs.declared.State.{State as StateRecord};
 ghost use Rattle.vfio.specs.Entries.{entryAt};
-ghost use Rattle.vfio.specs.Handlers.{setIommuIndex, mapIndex, unmapIndex};
-ghost use Rattle.capi.specs.Structs.{success as succeeded, refusal as refused, answerStruct, doneIf, foundStruct, noPart, keptBy};
-ghost use Rattle.capi.specs.Contract.{Tells, TellsAlone, FindsAt, IsNot, Fits, Replied, Handled, Judged, Steps};
+ghost use Rattle.vfio.specs.Handlers.{setIommuIndex, setIrqsIndex, mapIndex, unmapIndex};
+ghost use Rattle.capi.specs.Structs.{success as succeeded, refusal as refused, answerStruct, doneIf, foundStruct, lineStruct, noPart, keptBy};
+ghost use Rattle.capi.specs.Contract.{Tells, TellsAlone, FindsAt, ShowsLine, IsNot, Fits, Replied, Handled, Judged, Steps};
 
 // An answer: a result, or the number and the place of a refusal.
 #[repr(C)]
@@ -66,6 +69,17 @@ pub struct Found {
     pub rights: u32,
     pub left: u64,
     pub probes: u64,
+}
+
+// What is shown of an interrupt line: its event number, in the bits of a signed number, how often it was triggered, whether it is masked and
+// whether it is pending. All are 0 where it is refused.
+#[repr(C)]
+pub struct ShownLine {
+    pub outcome: Outcome,
+    pub number: u32,
+    pub tally: u32,
+    pub masked: bool,
+    pub pending: bool,
 }
 
 // One step over a stream of parts: a refusal; the end; or a part, with the bounds of its value in the stream. `next` is the place of the
@@ -137,6 +151,33 @@ fn location(l: Location) -> Found
                 rights: 0,
                 left: 0,
                 probes,
+            }
+        }
+    }
+}
+
+fn shown(s: Shown) -> ShownLine
+    ensures { λ r. ⌜ r ≡ lineStruct (toldLine s) ⌝ }
+{
+    match s {
+        Shown::At(line) => {
+            let outcome = success(0);
+            ShownLine {
+                outcome,
+                number: line.number,
+                tally: line.tally,
+                masked: line.masked == interrupts::YES,
+                pending: line.pending == interrupts::YES,
+            }
+        }
+        Shown::Refused(code, place) => {
+            let outcome = refusal(code, place);
+            ShownLine {
+                outcome,
+                number: 0,
+                tally: 0,
+                masked: false,
+                pending: false,
             }
         }
     }
@@ -215,6 +256,13 @@ fn iommu_set(c: IommuChange) -> Outcome
     numbers(answer::settle(verdict, 0))
 }
 
+fn irqs_set(c: IrqChange) -> Outcome
+    ensures { λ r. ⌜ r ≡ answerStruct (settle (c .verdict) (value 0)) ⌝ }
+{
+    let verdict = c.verdict;
+    numbers(answer::settle(verdict, 0))
+}
+
 fn answered(a: Admission, buf: &mut [u8]) -> Outcome
     requires { ⌜ (a .verdict ≡ Pass → sizeChecks (entryAt (a .index)) (now buf) ≡ Pass) ⌝ }
     ensures { λ r. ⌜ Replied a (now (buf .entry)) r (now (buf .exit)) ⌝ }
@@ -225,12 +273,27 @@ fn answered(a: Admission, buf: &mut [u8]) -> Outcome
 // An admitted request that changes nothing of the container: a reset of the device, or one that its buffer alone answers.
 fn answer_request(state: &mut State, a: Admission, buf: &mut [u8]) -> Outcome
     requires { ⌜ (a .verdict ≡ Pass → sizeChecks (entryAt (a .index)) (now buf) ≡ Pass) ⌝ }
-    ensures { λ r. ⌜ ((rs : List MappingRecord) → IsNot setIommuIndex a → IsNot mapIndex a → IsNot unmapIndex a → Handled a (now (buf .entry)) (now (state .entry)) rs r (now (buf .exit)) (now (state .exit)) rs) ⌝ }
+    ensures { λ r. ⌜ ((rs : List MappingRecord) → IsNot setIommuIndex a → IsNot mapIndex a → IsNot unmapIndex a → IsNot setIrqsIndex a → Handled a (now (buf .entry)) (now (state .entry)) rs r (now (buf .exit)) (now (state .exit)) rs) ⌝ }
 {
     if vfio::resets(a) {
         state.registers = registers::reset();
+        state.lines = interrupts::disabled();
     }
     answered(a, buf)
+}
+
+// One that changes nothing of the container: it sets interrupt lines up or acts on them, or changes no line but by a reset.
+fn irqs_or_answer(state: &mut State, a: Admission, buf: &mut [u8]) -> Outcome
+    requires { ⌜ (a .verdict ≡ Pass → sizeChecks (entryAt (a .index)) (now buf) ≡ Pass) ⌝ }
+    ensures { λ r. ⌜ ((rs : List MappingRecord) → IsNot setIommuIndex a → IsNot mapIndex a → IsNot unmapIndex a → Handled a (now (buf .entry)) (now (state .entry)) rs r (now (buf .exit)) (now (state .exit)) rs) ⌝ }
+{
+    if vfio::sets_irqs(a) {
+        let lines = state.lines;
+        let change = vfio::plan_irqs(lines, buf);
+        state.lines = vfio::kept_lines(change);
+        return irqs_set(change);
+    }
+    answer_request(state, a, buf)
 }
 
 // One that changes no mapping: it sets the container's IOMMU type, or changes nothing of the container.
@@ -245,7 +308,7 @@ fn set_or_answer(state: &mut State, a: Admission, buf: &mut [u8]) -> Outcome
         state.iommu_type = vfio::kept_type(change);
         return iommu_set(change);
     }
-    answer_request(state, a, buf)
+    irqs_or_answer(state, a, buf)
 }
 
 // One that adds no mapping: an unmap, or one that changes none.
@@ -318,6 +381,27 @@ pub extern "C" fn glint_look_up(state: &State, records: &[Mapping], device: u64)
     let found = iommu::find(records, count, d);
     let place = place_of(found);
     found_at(ok, d, found, iommu::get(records, count, place))
+}
+
+fn line_shown(ok: bool, lines: Lines, index: u32, line: u32) -> ShownLine
+    ensures { λ r. ⌜ ((s : StateRecord) (rs : List MappingRecord) → ok ≡ soundMachine (lengthOf rs) (machineOf s rs) → lines ≡ s .lines → ShowsLine index line s rs r) ⌝ }
+{
+    shown(emulator::show_line(ok, lines, index, line))
+}
+
+// Shows an interrupt line.
+#[no_mangle]
+pub extern "C" fn glint_show_line(
+    state: &State,
+    records: &[Mapping],
+    index: u32,
+    line: u32,
+) -> ShownLine
+    ensures { λ r. ⌜ ShowsLine index line (now (state .entry)) (now (records .entry)) r ⌝ }
+{
+    let ok = emulator::sound(state, records);
+    let lines = state.lines;
+    line_shown(ok, lines, index, line)
 }
 
 // Whether a transfer is accepted.

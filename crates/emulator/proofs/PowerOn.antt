@@ -1,7 +1,7 @@
 -- What a fresh start has to answer and leave.
 use Prim.Native.Nat.{ℕ, _+_, _*_, _^_, _≤_, _<_}
 use native.Mathlib.Omega.{arith}
-use mathlib.Core.Path.{_≡_, refl, sym, ap}
+use mathlib.Core.Path.{_≡_, refl, sym, ap, ap₂}
 use mathlib.Core.Bool.{Bool, true, false, not}
 use mathlib.Core.List.{List, []}
 use lib.ListN.{length}
@@ -20,6 +20,9 @@ use Rattle.registers.specs.File.{reset, slotsOf}
 use Rattle.registers.specs.declared.Card.{Card}
 use Rattle.registers.specs.declared.Register.{Register}
 use Rattle.registers.specs.declared.Registers.{Registers}
+use Rattle.interrupts.specs.Lines.{disabledLines}
+use Rattle.interrupts.specs.declared.Line.{Line}
+use Rattle.interrupts.specs.declared.Lines.{Lines}
 use Rattle.emulator.specs.Machine.{lendable, lendableRecords, usable, emulatorOf, poweredOn}
 use Rattle.emulator.specs.Effect.{value, filled}
 use Rattle.emulator.specs.Calls.{powerOn, given, ownChecks, effect}
@@ -59,8 +62,8 @@ module _ (card : Card) (s : State) (rs : List Mapping) (m m′ : Memory) where
   power-done s′ good f g = accepted (powerOn card) [] s rs m [] m′ s′ rs good refl refl f g refl
 
 -- the state that the code makes of a reset card
-pub fresh-state : (card : Card) (n w : ℕ) (r : Registers) (s : State) → w ≡ wordsOf card → r .slots ≡ slotsOf reset
-    → record { «memory_length» = n; count = 0; registers = r; running = 0; words = w; «iommu_type» = type1v2 } ≡ stateWith everything (poweredOn card n) s
+pub fresh-state : (card : Card) (n w : ℕ) (r : Registers) (ls : Lines) (s : State) → w ≡ wordsOf card → r .slots ≡ slotsOf reset → ls .lines ≡ disabledLines
+    → record { «memory_length» = n; count = 0; registers = r; running = 0; words = w; «iommu_type» = type1v2; lines = ls } ≡ stateWith everything (poweredOn card n) s
 unfolding stateWith poweredOn
-fresh-state card n w r s d e =
-    rw d (ap (λ (l : List Register). record { «memory_length» = n; count = 0; registers = record { slots = l }; running = 0; words = wordsOf card; «iommu_type» = type1v2 }) e)
+fresh-state card n w r ls s d e f =
+    rw d (ap₂ (λ (l : List Register) (k : List Line). record { «memory_length» = n; count = 0; registers = record { slots = l }; running = 0; words = wordsOf card; «iommu_type» = type1v2; lines = record { lines = k } }) e f)

@@ -23,8 +23,8 @@ use Rattle.memory.specs.Transfers.{unwrittenAt, unwrittenIn, hostWriteChecks, h
 use Rattle.memory.specs.Memory.{byteAt, bytesFrom}
 use Rattle.dma.specs.Transfers.{readFault, transferChecks, deviceReadChecks, gather}
 use Rattle.emulator.specs.Machine.{Emulator, Given, memoryAlone, stateAlone, both, lendable, asNoted, usable}
-use Rattle.emulator.specs.Requests.{Request, Entry, getApiVersion, checkExtension, setIommu, getIommuInfo, mapDma, unmapDma, getInfo, getRegionInfo, getIrqInfo, resetDevice, identify, requestChecks, listedChecks, requestEffect, listedEffect}
-use Rattle.emulator.specs.Calls.{Call, powerOn, request, lookUp, deviceRead, deviceWrite, hostWrite, hostRead, invalidate, setRegister, readRegister, loadParts, saveParts, stop, start, given, ownChecks, checks, effect, outcome}
+use Rattle.emulator.specs.Requests.{Request, Entry, getApiVersion, checkExtension, setIommu, getIommuInfo, mapDma, unmapDma, getInfo, getRegionInfo, getIrqInfo, setIrqs, resetDevice, identify, requestChecks, listedChecks, requestEffect, listedEffect}
+use Rattle.emulator.specs.Calls.{Call, powerOn, request, lookUp, deviceRead, deviceWrite, hostWrite, hostRead, invalidate, setRegister, readRegister, showLine, loadParts, saveParts, stop, start, given, ownChecks, checks, effect, outcome}
 
 -- the same emulator with another shadow
 unfoldable pub shadowedBy : Shadow → Emulator → Emulator
@@ -78,6 +78,7 @@ module _ (t : Shadow) (e : Emulator)
     listed-checks getInfo buf = refl
     listed-checks getRegionInfo buf = refl
     listed-checks getIrqInfo buf = refl
+    listed-checks setIrqs buf = refl
     listed-checks resetDevice buf = refl
 
     request-checks : (r : Option Entry) (buf : List ℕ) → requestChecks r buf (shadowedBy t e) ≡ requestChecks r buf e
@@ -96,6 +97,7 @@ module _ (t : Shadow) (e : Emulator)
     listed-effect getInfo buf = refl
     listed-effect getRegionInfo buf = refl
     listed-effect getIrqInfo buf = refl
+    listed-effect setIrqs buf = refl
     listed-effect resetDevice buf = refl
 
     request-effect : (r : Option Entry) (buf : List ℕ) → requestEffect r buf (shadowedBy t e) ≡ requestEffect r buf e
@@ -117,6 +119,7 @@ module _ (t : Shadow) (e : Emulator)
     own-checks-same (invalidate a n) buf = refl
     own-checks-same (setRegister kind selector) buf = refl
     own-checks-same (readRegister kind selector) buf = refl
+    own-checks-same (showLine index i) buf = refl
     own-checks-same loadParts buf = refl
     own-checks-same saveParts buf = refl
     own-checks-same stop buf = refl
@@ -134,6 +137,7 @@ module _ (t : Shadow) (e : Emulator)
     effect-same (invalidate a n) buf = refl
     effect-same (setRegister kind selector) buf = refl
     effect-same (readRegister kind selector) buf = refl
+    effect-same (showLine index i) buf = refl
     effect-same loadParts buf = refl
     effect-same saveParts buf = refl
     effect-same stop buf = refl

@@ -19,7 +19,8 @@ use Rattle.dma.specs.Walk.{Ready}
 use Rattle.registers.specs.Cards.{isCard, wordRoom}
 use Rattle.registers.specs.File.{soundFile, fileOf}
 use Rattle.registers.proofs.Cards.{card-small}
-use Rattle.emulator.specs.Machine.{machineOf, emulatorOf, lendableRecords, soundMappings, soundLength, soundCard, soundIommuType, soundRegisters, sound, lendable, asNoted, both, usable}
+use Rattle.interrupts.specs.Lines.{soundLines}
+use Rattle.emulator.specs.Machine.{machineOf, emulatorOf, lendableRecords, soundMappings, soundLength, soundCard, soundIommuType, soundInterrupts, soundRegisters, sound, lendable, asNoted, both, usable}
 use Rattle.emulator.specs.declared.State.{State}
 
 -- ---- memory and marks
@@ -38,20 +39,20 @@ module _ (m : Memory) (lent : lendable m ≡ true) where
 
 module _ (s : State) (rs : List Mapping) where
   -- the code asks the device first, and then the mappings
-  pub sound-is : (isCard (s .words) and isIommuType (s .«iommu_type») and leb (s .«memory_length») memoryLimit and soundFile (s .words) (fileOf (s .words) (s .registers))
+  pub sound-is : (isCard (s .words) and isIommuType (s .«iommu_type») and soundLines (s .lines .lines) and leb (s .«memory_length») memoryLimit and soundFile (s .words) (fileOf (s .words) (s .registers))
       and (leb (length rs) capacity and leb (s .count) (length rs) and soundTable (s .«memory_length») (inUse (tableOf rs (s .count)))))
       ≡ sound (length rs) (machineOf s rs)
-  unfolding sound soundCard soundIommuType soundLength soundMappings lendableRecords soundRegisters machineOf
+  unfolding sound soundCard soundIommuType soundInterrupts soundLength soundMappings lendableRecords soundRegisters machineOf
   sound-is = and-swap _ _ _
 
   -- of the device, of the mappings, and of both
-  sound-found : {device mappings r : Bool} → device ≡ (isCard (s .words) and isIommuType (s .«iommu_type») and leb (s .«memory_length») memoryLimit and soundFile (s .words) (fileOf (s .words) (s .registers)))
+  sound-found : {device mappings r : Bool} → device ≡ (isCard (s .words) and isIommuType (s .«iommu_type») and soundLines (s .lines .lines) and leb (s .«memory_length») memoryLimit and soundFile (s .words) (fileOf (s .words) (s .registers)))
       → mappings ≡ (leb (length rs) capacity and leb (s .count) (length rs) and soundTable (s .«memory_length») (inUse (tableOf rs (s .count)))) → r ≡ (device and mappings)
       → r ≡ sound (length rs) (machineOf s rs)
   sound-found d m e = e ∙ rw (d, m) sound-is
 
   -- the device is judged first
-  module _ {device : Bool} (is : device ≡ (isCard (s .words) and isIommuType (s .«iommu_type») and leb (s .«memory_length») memoryLimit and soundFile (s .words) (fileOf (s .words) (s .registers)))) where
+  module _ {device : Bool} (is : device ≡ (isCard (s .words) and isIommuType (s .«iommu_type») and soundLines (s .lines .lines) and leb (s .«memory_length») memoryLimit and soundFile (s .words) (fileOf (s .words) (s .registers)))) where
     pub sound-by-mappings : device ≡ true → {r : Bool} → r ≡ (leb (length rs) capacity and leb (s .count) (length rs) and soundTable (s .«memory_length») (inUse (tableOf rs (s .count))))
         → r ≡ sound (length rs) (machineOf s rs)
     sound-by-mappings h {r} e = sound-found is e (and-second h refl)
@@ -60,13 +61,13 @@ module _ (s : State) (rs : List Mapping) where
     unsound-device h = sound-found is refl (and-first _ h refl)
 
   module _ (good : sound (length rs) (machineOf s rs) ≡ true) where
-    card-and-length : (isCard (s .words) and isIommuType (s .«iommu_type») and leb (s .«memory_length») memoryLimit) ≡ true
-    unfolding sound soundCard soundIommuType soundLength machineOf
+    card-and-length : (isCard (s .words) and isIommuType (s .«iommu_type») and soundLines (s .lines .lines) and leb (s .«memory_length») memoryLimit) ≡ true
+    unfolding sound soundCard soundIommuType soundInterrupts soundLength machineOf
     card-and-length = and-true _ _ (and-true _ _ good .0) .0
 
     -- what functions below may ask of the card
     pub sound-card : isCard (s .words) ≡ true
-    sound-card = and-true _ _ (and-true _ _ card-and-length .0) .0
+    sound-card = and-true _ _ (and-true _ _ (and-true _ _ card-and-length .0) .0) .0
 
     pub sound-small : s .words ≤ wordRoom
     sound-small = card-small (s .words) sound-card

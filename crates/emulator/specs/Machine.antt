@@ -13,11 +13,14 @@ use Rattle.memory.specs.Memory.{Memory}
 use Rattle.registers.specs.Cards.{wordsOf, isCard}
 use Rattle.registers.specs.File.{File, reset, soundFile, fileOf}
 use Rattle.registers.specs.declared.Card.{Card}
+use Rattle.interrupts.specs.Lines.{soundLines, disabledLines}
+use Rattle.interrupts.specs.declared.Line.{Line}
 use Rattle.emulator.specs.declared.State.{State}
 
 -- What the kept state means with the records that are lent: no record past the count and no value of an unset register (rule 1.13).
 -- `mappings` are the records in use, which are `count` where the state is sound; `memoryLength` is the noted length, `words` is how many
--- words of features the card has (rule 1.15), and `iommuType` is the number of the container's IOMMU type (rule 1.19).
+-- words of features the card has (rule 1.15), `iommuType` is the number of the container's IOMMU type (rule 1.19), and `lines` are the
+-- interrupt lines (rule 1.20).
 pub record Machine : Type 0 where
   pub memoryLength : ℕ
   pub count : ℕ
@@ -26,6 +29,7 @@ pub record Machine : Type 0 where
   pub running : Bool
   pub words : ℕ
   pub iommuType : ℕ
+  pub lines : List Line
 
 -- memory with its marks, how many records are lent (rule 1.8), and the kept state
 pub record Emulator : Type 0 where
@@ -44,6 +48,7 @@ machineOf s rs =
       running = flagged (s .running);
       words = s .words;
       iommuType = s .«iommu_type»;
+      lines = s .lines .lines;
     }
 
 -- the emulator that lent records and memory make with the code's state
@@ -59,6 +64,10 @@ soundCard k = isCard (k .words)
 -- rule 1.19: the container is of an IOMMU type that there is
 unfoldable pub soundIommuType : Machine → Bool
 soundIommuType k = isIommuType (k .iommuType)
+
+-- rule 1.20: no interrupt line has an event number below −1
+unfoldable pub soundInterrupts : Machine → Bool
+soundInterrupts k = soundLines (k .lines)
 
 -- rules 1.8 and 2.6: at most 4,096 records are lent
 unfoldable pub lendableRecords : ℕ → Bool
@@ -78,7 +87,7 @@ soundRegisters k = soundFile (k .words) (k .registers)
 
 -- rule 1.12, whole
 unfoldable pub sound : ℕ → Machine → Bool
-sound room k = soundCard k and soundIommuType k and soundLength k and soundMappings room k and soundRegisters k
+sound room k = soundCard k and soundIommuType k and soundInterrupts k and soundLength k and soundMappings room k and soundRegisters k
 
 -- ---- refusal 1, on what a call is given
 
@@ -106,20 +115,33 @@ usable both e = lendable (e .memory) and asNoted e and sound (e .room) (e .machi
 
 -- rules 1.10 and 1.19: the state that power on of a card leaves with memory of length `n`, of which nothing comes from the old one
 unfoldable pub poweredOn : Card → ℕ → Machine
-poweredOn card n = record { memoryLength = n; count = 0; mappings = []; registers = reset; running = false; words = wordsOf card; iommuType = type1v2 }
+poweredOn card n = record { memoryLength = n; count = 0; mappings = []; registers = reset; running = false; words = wordsOf card; iommuType = type1v2; lines = disabledLines }
 
 unfoldable pub withMappings : List Mapping → Machine → Machine
 withMappings ms k =
-    record { memoryLength = k .memoryLength; count = length ms; mappings = ms; registers = k .registers; running = k .running; words = k .words; iommuType = k .iommuType }
+    record { memoryLength = k .memoryLength; count = length ms; mappings = ms; registers = k .registers; running = k .running; words = k .words; iommuType = k .iommuType; lines = k .lines }
 
 unfoldable pub withRegisters : File → Machine → Machine
 withRegisters file k =
-    record { memoryLength = k .memoryLength; count = k .count; mappings = k .mappings; registers = file; running = k .running; words = k .words; iommuType = k .iommuType }
+    record { memoryLength = k .memoryLength; count = k .count; mappings = k .mappings; registers = file; running = k .running; words = k .words; iommuType = k .iommuType; lines = k .lines }
 
 unfoldable pub withRunning : Bool → Machine → Machine
 withRunning running k =
-    record { memoryLength = k .memoryLength; count = k .count; mappings = k .mappings; registers = k .registers; running = running; words = k .words; iommuType = k .iommuType }
+    record { memoryLength = k .memoryLength; count = k .count; mappings = k .mappings; registers = k .registers; running = running; words = k .words; iommuType = k .iommuType; lines = k .lines }
 
 unfoldable pub withIommuType : ℕ → Machine → Machine
 withIommuType kind k =
-    record { memoryLength = k .memoryLength; count = k .count; mappings = k .mappings; registers = k .registers; running = k .running; words = k .words; iommuType = kind }
+    record { memoryLength = k .memoryLength; count = k .count; mappings = k .mappings; registers = k .registers; running = k .running; words = k .words; iommuType = kind; lines = k .lines }
+
+unfoldable pub withLines : List Line → Machine → Machine
+withLines ls k =
+    record {
+      memoryLength = k .memoryLength;
+      count = k .count;
+      mappings = k .mappings;
+      registers = k .registers;
+      running = k .running;
+      words = k .words;
+      iommuType = k .iommuType;
+      lines = ls;
+    }

@@ -4,6 +4,8 @@ use address::DeviceAddress;
 use address::MemoryAddress;
 use answer::Answer;
 use answer::Verdict;
+use interrupts::Line;
+use interrupts::Lines;
 use iommu::Mapping;
 use iommu::Translation;
 use parts::Loaded;
@@ -25,15 +27,16 @@ ghost use Rattle.registers.specs.Cards.{isCard};
 ghost use Rattle.registers.specs.File.{soundFile, fileOf};
 ghost use Rattle.registers.specs.declared.Card.the-variants.{Features64, Features128};
 ghost use Rattle.parts.specs.Load.{loadedOf};
+ghost use Rattle.interrupts.specs.Lines.{soundLines};
 ghost use Rattle.emulator.specs.Machine.{machineOf, emulatorOf, both as stateAndMemory, sound as soundMachine, lendable as canLend, lendableRecords, usable as canUse, poweredOn};
-ghost use Rattle.emulator.specs.Calls.{hostWrite, hostRead, setRegister, readRegister, saveParts, loadOn};
+ghost use Rattle.emulator.specs.Calls.{hostWrite, hostRead, setRegister, readRegister, showLine, saveParts, loadOn};
 ghost use Rattle.emulator.specs.Calls as calls;
-ghost use Rattle.emulator.specs.Contract.{Meets, MeetsAlone, Locates, lentMemory, leftMemory, remarkedMemory, told, withRegistersIn, stateWith, everything};
+ghost use Rattle.emulator.specs.Contract.{Meets, MeetsAlone, Locates, lentMemory, leftMemory, remarkedMemory, told, toldLine, withRegistersIn, stateWith, everything};
 ghost use Rattle.emulator.specs.declared.State.{State as StateRecord};
 
 // The state that a caller keeps between calls: the length of memory noted at power on, how many of the lent records are in use, the
-// device's registers, whether the device runs, which card it is, by its 64-bit words of features: 1 or 2, and the number of the container's
-// IOMMU type: 1 or 3. The device runs where `running` is 1, and no other value of that byte says so. Any values may stand in the state: each
+// device's registers, whether the device runs, which card it is, by its 64-bit words of features: 1 or 2, the number of the container's IOMMU
+// type: 1 or 3, and the interrupt lines. The device runs where `running` is 1, and no other value of that byte says so. Any values may stand in the state: each
 // call says whether they make a sound one.
 #[repr(C)]
 pub struct State {
@@ -43,6 +46,7 @@ pub struct State {
     pub running: u8,
     pub words: u8,
     pub iommu_type: u32,
+    pub lines: Lines,
 }
 
 // What the byte `running` of a state holds where the device runs.
@@ -55,6 +59,12 @@ pub enum Location {
     Refused(u32, u64, u64),
 }
 
+// What is shown of an interrupt line: the line, or a refusal's number and place.
+pub enum Shown {
+    At(Line),
+    Refused(u32, u64),
+}
+
 // An answer, and the registers to keep.
 pub struct Changed {
     pub answer: Answer,
@@ -63,14 +73,24 @@ pub struct Changed {
 
 // ---- refusal 1
 
-// Whether the card, the container's IOMMU type, the noted length and the registers of a kept state are sound.
-fn sound_device(words: u8, kind: u32, length: u64, registers: Registers) -> bool
-    ensures { λ r. ⌜ r ≡ (isCard words and isIommuType kind and leb length memoryLimit and soundFile words (fileOf words registers)) ⌝ }
+// Whether the card, the IOMMU type and the interrupt lines of a kept state are sound.
+fn sound_kinds(words: u8, kind: u32, lines: Lines) -> bool
+    ensures { λ r. ⌜ r ≡ (isCard words and isIommuType kind and soundLines (lines .lines)) ⌝ }
 {
     if !registers::is_card(words) {
         return false;
     }
     if !iommu::is_iommu_type(kind) {
+        return false;
+    }
+    interrupts::sound(lines)
+}
+
+// Whether the card, the container's IOMMU type, the noted length and the registers of a kept state are sound.
+fn sound_device(words: u8, kind: u32, lines: Lines, length: u64, registers: Registers) -> bool
+    ensures { λ r. ⌜ r ≡ (isCard words and isIommuType kind and soundLines (lines .lines) and leb length memoryLimit and soundFile words (fileOf words registers)) ⌝ }
+{
+    if !sound_kinds(words, kind, lines) {
         return false;
     }
     if address::MEMORY_LIMIT < length {
@@ -94,7 +114,8 @@ pub fn sound(state: &State, records: &[Mapping]) -> bool
     let registers = state.registers;
     let words = state.words;
     let kind = state.iommu_type;
-    let device = sound_device(words, kind, length, registers);
+    let lines = state.lines;
+    let device = sound_device(words, kind, lines, length, registers);
     // Where the noted length is known to be in range, the loop over records has one test less.
     if device {
         return iommu::sound(records, count, length);
@@ -164,6 +185,7 @@ fn fresh(card: Card, length: usize) -> State
     ensures { λ r. ⌜ ((s : StateRecord) → r ≡ stateWith everything (poweredOn card length) s) ⌝ }
 {
     let registers = registers::reset();
+    let lines = interrupts::disabled();
     State {
         memory_length: length as u64,
         count: 0,
@@ -171,6 +193,7 @@ fn fresh(card: Card, length: usize) -> State
         running: 0,
         words: registers::words_of(card),
         iommu_type: iommu::TYPE1V2,
+        lines,
     }
 }
 
@@ -328,6 +351,23 @@ pub fn read_register(
         Verdict::Pass => {
             let n = registers::read(words, registers, kind, selector, buf);
             Answer::Done(n as u64)
+        }
+    }
+}
+
+// Shows an interrupt line, by its index and its number there.
+pub fn show_line(ok: bool, lines: Lines, index: u32, line: u32) -> Shown
+    ensures { λ r. ⌜ ((s : StateRecord) (rs : List MappingRecord) → ok ≡ soundMachine (length rs) (machineOf s rs) → lines ≡ s .lines → MeetsAlone (showLine index line) [] s rs (toldLine r) [] s rs) ⌝ }
+{
+    if !ok {
+        return Shown::Refused(answer::BAD_BENCH, 0);
+    }
+    let verdict = interrupts::check_show(index, line);
+    match verdict {
+        Verdict::Fail(code, place) => Shown::Refused(code, place),
+        Verdict::Pass => {
+            let found = interrupts::shown(lines, index, line);
+            Shown::At(found)
         }
     }
 }

@@ -21,7 +21,7 @@ use Rattle.answer.specs.Tests.{_and_, pick, flagged, isSome}
 use Rattle.answer.specs.Checks.{_then_, _when_, _unless_, passes}
 use Rattle.answer.specs.declared.Verdict.{Verdict}
 use Rattle.answer.specs.declared.Verdict.the-variants.{Pass, Fail}
-use Rattle.answer.proofs.Tests.{and-true, and-made}
+use Rattle.answer.proofs.Tests.{and-true, and-made, both-and}
 use Rattle.answer.proofs.Arrays.{length-mapped}
 use Rattle.wire.specs.Field.{bytesOf}
 use Rattle.registers.specs.Rows.{rowCount, statusRow, kindOf, sizeOf}
@@ -33,7 +33,7 @@ use Rattle.registers.specs.declared.Registers.{Registers}
 use Rattle.registers.proofs.Registers.{the-type}
 use Rattle.registers.proofs.Rows.{size-most, features-size}
 use Rattle.registers.proofs.Features.{offered-length, offered-take, offered-exact}
-use Rattle.registers.proofs.Values.{both-and, content-free, value-content, value-size}
+use Rattle.registers.proofs.Values.{content-free, value-content, value-size}
 
 -- what a list of registers reads as past its end
 abbrev pub absent : Register

@@ -2,7 +2,7 @@
 use Prim.Native.Nat.{ℕ, zero, suc, _+_, _*_, _%_, _≤_, _<_}
 use native.Mathlib.Omega.{arith}
 use mathlib.Core.Path.{_≡_, refl}
-use mathlib.Core.Bool.{Bool, true, false, _&&_, _||_}
+use mathlib.Core.Bool.{Bool, true, false}
 use mathlib.Core.List.{List, []}
 use lib.ListN.{length}
 use lib.Dec.{eqb, leb, ltb}
@@ -19,18 +19,6 @@ use Rattle.wire.proofs.Laws.{field-split}
 use Rattle.registers.specs.Rows.{rowCount, statusRow, kindOf, widthOf, sizeIn, sizeOf}
 use Rattle.registers.specs.Values.{eachWord, within, validSize, validQueue, validNotify, contentChecks, valueChecks}
 use Rattle.registers.proofs.Rows.{in-range}
-
--- ---- tests that the code joins by `&` and `|`
-
-pub both-and : (s t : Bool) → (s && t) ≡ (s and t)
-unfolding _and_
-both-and true t = refl
-both-and false t = refl
-
-pub either-or : (s t : Bool) → (s || t) ≡ (s or t)
-unfolding _or_
-either-or true t = refl
-either-or false t = refl
 
 -- ---- the order of the checks
 

@@ -57,6 +57,8 @@ use Rattle.vfio.proofs.Map as map-type
 use Rattle.vfio.proofs.Map.Laws as map-laws
 use Rattle.vfio.proofs.IommuChange as iommu-change-type
 use Rattle.vfio.proofs.IommuChange.Laws as iommu-change-laws
+use Rattle.vfio.proofs.IrqChange as irq-change-type
+use Rattle.vfio.proofs.IrqChange.Laws as irq-change-laws
 use Rattle.vfio.proofs.Range as range-type
 use Rattle.vfio.proofs.Range.Laws as range-laws
 use Rattle.iommu.proofs.Unmap as unmap-type
@@ -69,6 +71,9 @@ map = record { type = map-type.the-type; laws = map-laws.the-laws; copy = map-la
 
 abbrev pub iommu-change : Struct
 iommu-change = record { type = iommu-change-type.the-type; laws = iommu-change-laws.the-laws; copy = iommu-change-laws.the-copy; plain = iommu-change-laws.the-plain; one = refl }
+
+abbrev pub irq-change : Struct
+irq-change = record { type = irq-change-type.the-type; laws = irq-change-laws.the-laws; copy = irq-change-laws.the-copy; plain = irq-change-laws.the-plain; one = refl }
 
 abbrev pub range : Struct
 range = record { type = range-type.the-type; laws = range-laws.the-laws; copy = range-laws.the-copy; plain = range-laws.the-plain; one = refl }

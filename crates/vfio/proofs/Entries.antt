@@ -12,10 +12,11 @@ use lib.Dec.{eqb, ltb, leb}
 use borrow.Author.Tests.{eq-eqb, ne-eqb, lt-ltb, le-ltb, ltb-true, ltb-false, leb-true}
 use Rattle.answer.specs.Tests.{_and_, pick}
 use Rattle.answer.specs.Codes.{NoSuchRequest, Short}
-use Rattle.answer.specs.Checks.{_then_, _when_}
+use Rattle.answer.specs.Checks.{_then_, _when_, _unless_}
 use Rattle.answer.specs.declared.Verdict.the-variants.{Pass, Fail}
-use Rattle.answer.proofs.Tests.{below, below-at, pick-true}
-use Rattle.answer.proofs.Checks.{never, then-pass, when-pass}
+use Rattle.answer.proofs.Tests.{and-true, below, below-at, pick-true}
+use Rattle.answer.proofs.Checks.{never, then-pass, when-pass, unless-pass}
+use Rattle.wire.specs.Field.{field}
 use Rattle.emulator.specs.Requests.{Entry, requests, entryIn, identify, argszChecks, sizeChecks}
 use Rattle.vfio.specs.Entries.{requestCount, noEntry, entryOf, entryAt}
 
@@ -131,6 +132,16 @@ size-passed buf i h = go (ltb i requestCount) refl
 -- a handler's room in the buffer: the size of its own entry
 pub size-room : (buf : List ℕ) (i k : ℕ) → i ≡ k → sizeChecks (entryAt i) buf ≡ Pass → entryOf k .size ≤ length buf
 size-room buf i k e h = rw e at (size-passed buf i h .1)
+
+-- and the argsz that it was given, where that is its first field
+argsz-fits : (r : Entry) (buf : List ℕ) → r .argsz ≡ true → sizeChecks (some r) buf ≡ Pass → field buf 0 4 ≤ length buf
+unfolding sizeChecks argszChecks
+argsz-fits r buf is h = leb-true _ _ (and-true _ _ (unless-pass _ _ (rw is at (then-pass _ _ h .1))) .1)
+
+pub argsz-given : (buf : List ℕ) (i k : ℕ) → i ≡ k → entryOf k .argsz ≡ true → sizeChecks (entryAt i) buf ≡ Pass → field buf 0 4 ≤ length buf
+argsz-given buf i k e is h =
+    let lt = size-passed buf i h .0 in
+    argsz-fits (entryOf i) buf (rw (← e) at is) (rw (← entry-at i lt) h)
 
 -- ---- the arm of a `match` for every other index
 

@@ -1,7 +1,7 @@
 -- What the handler of each request has to answer and leave, by what is known where it returns.
 use native.Mathlib.Omega.{arith}
 use Prim.Native.Nat.{ℕ, _+_, _*_, _^_, _≤_, _<_}
-use mathlib.Core.Path.{_≡_, refl, sym, _∙_, ap}
+use mathlib.Core.Path.{_≡_, refl, sym, _∙_, ap, ap₂, subst}
 use mathlib.Core.Bool.{true, false}
 use mathlib.Core.List.{List, [], _∷_, map}
 use lib.ListN.{length, getD, List·getD-map}
@@ -24,14 +24,19 @@ use Rattle.memory.specs.Memory.{Memory}
 use Rattle.registers.specs.File.{reset, slotsOf}
 use Rattle.registers.specs.declared.Register.{Register}
 use Rattle.registers.specs.declared.Registers.{Registers}
-use Rattle.emulator.specs.Machine.{Emulator, machineOf, emulatorOf, withMappings, withRegisters, withIommuType}
+use Rattle.emulator.specs.Machine.{Emulator, machineOf, emulatorOf, withMappings, withRegisters, withIommuType, withLines}
 use Rattle.emulator.specs.Effect.{Result, value, Piece, output, reporting, writing, effectOf, outcomeOf, filled}
-use Rattle.emulator.specs.Requests.{Request, getApiVersion, checkExtension, setIommu, mapDma, unmapDma, getRegionInfo, getIrqInfo, resetDevice, Region, region, regions, regionAt, Interrupt, interrupt, interrupts, interruptAt, requestedMapping, requestedStart, requestedSize, requestedIndex, requestedType, listedChecks, listedEffect}
-use Rattle.emulator.specs.Contract.{nothing, requestWrites, withCountIn, withRegistersIn, withIommuTypeIn, stateWith, recordsWith, returned, leftRecords}
+use Rattle.emulator.specs.Requests.{Request, getApiVersion, checkExtension, setIommu, mapDma, unmapDma, getRegionInfo, getIrqInfo, setIrqs, resetDevice, Region, region, regions, regionAt, requestedMapping, requestedStart, requestedSize, requestedIndex, requestedType, listedChecks, listedEffect}
+use Rattle.emulator.specs.Contract.{nothing, requestWrites, withCountIn, withRegistersIn, withIommuTypeIn, withLinesIn, stateWith, recordsWith, returned, leftRecords}
 use Rattle.emulator.specs.declared.State.{State}
 use Rattle.vfio.specs.Entries.{requestCount, entryOf}
-use Rattle.vfio.specs.Handlers.{handled, Handles, Answers, Replies, resetIndex, Plain, SetsIommu}
+use Rattle.vfio.specs.Handlers.{handled, Handles, Answers, Replies, resetIndex, Plain, SetsIommu, SetsIrqs}
+use Rattle.interrupts.specs.Lines.{indices, indexAt, disabledLines}
+use Rattle.interrupts.specs.Requests.{setChecks, changedLines}
+use Rattle.interrupts.specs.declared.Line.{Line}
+use Rattle.interrupts.specs.declared.Lines.{Lines}
 use Rattle.vfio.specs.declared.IommuChange.{IommuChange}
+use Rattle.vfio.specs.declared.IrqChange.{IrqChange}
 
 -- ---- any request
 
@@ -105,7 +110,7 @@ regionFields i =
     ∷ []
 
 abbrev pub interruptFields : ℕ → List Piece
-interruptFields i = output 4 4 (getD (map (λ r. r .flags) interrupts) i 0) ∷ output 12 4 (getD (map (λ r. r .count) interrupts) i 0) ∷ []
+interruptFields i = output 4 4 (indexAt i .flags) ∷ output 12 4 (indexAt i .count) ∷ []
 
 module _ (buf buf′ : List ℕ) (i : ℕ) (is : i ≡ field buf 8 4) where
   pub region-info : i < length regions → buf′ ≡ filled (regionFields i) buf → Answers getRegionInfo buf (done (value 0)) buf′
@@ -115,14 +120,11 @@ module _ (buf buf′ : List ℕ) (i : ℕ) (is : i ≡ field buf 8 4) where
       (λ e. rw (List·getD-map (λ (r : Region). r .flags) regions (field buf 8 4) (region 0 0), List·getD-map (λ (r : Region). r .size) regions (field buf 8 4) (region 0 0)))
       refl
 
-  pub irq-info : i < length interrupts → buf′ ≡ filled (interruptFields i) buf → Answers getIrqInfo buf (done (value 0)) buf′
-  unfolding listedChecks listedEffect requestWrites requestedIndex interruptAt
-  irq-info =
-      index-done getIrqInfo buf (length interrupts) (λ e. refl) i is buf′ interruptFields
-      (λ e. rw (List·getD-map (λ (r : Interrupt). r .flags) interrupts (field buf 8 4) (interrupt 0 0), List·getD-map (λ (r : Interrupt). r .count) interrupts (field buf 8 4) (interrupt 0 0)))
-      refl
+  pub irq-info : i < length indices → buf′ ≡ filled (interruptFields i) buf → Answers getIrqInfo buf (done (value 0)) buf′
+  unfolding listedChecks listedEffect requestWrites requestedIndex
+  irq-info = index-done getIrqInfo buf (length indices) (λ e. refl) i is buf′ interruptFields (λ e. refl) refl
 
--- ---- requests that change the table, or its IOMMU type
+-- ---- requests that change the table, its IOMMU type, or lines
 
 -- what the code keeps where the checks of a change pass, and where they do not
 module _ (count kind : ℕ) (buf : List ℕ) {asked : ℕ} {v : Verdict} (is : asked ≡ requestedType buf) (judged : v ≡ setIommuChecks count asked) where
@@ -133,6 +135,15 @@ module _ (count kind : ℕ) (buf : List ℕ) {asked : ℕ} {v : Verdict} (is : a
   pub type-kept : {code place : ℕ} → v ≡ Fail code place → SetsIommu count kind buf (record { verdict = Fail code place; kind = kind })
   unfolding pick passes
   type-kept e = record { checks = sym e ∙ rw (← is) judged; kept = refl }
+
+-- and of a request to the lines
+pub lines-changed : (lines : List Line) (buf : List ℕ) {next : Lines} → setChecks buf ≡ Pass → next .lines ≡ changedLines buf lines → SetsIrqs lines buf (record { verdict = Pass; lines = next })
+unfolding pick passes
+lines-changed lines buf e f = record { checks = sym e; kept = f }
+
+pub lines-kept : (lines : Lines) (buf : List ℕ) {code place : ℕ} → setChecks buf ≡ Fail code place → SetsIrqs (lines .lines) buf (record { verdict = Fail code place; lines = lines })
+unfolding pick passes
+lines-kept lines buf e = record { checks = sym e; kept = refl }
 
 module _ (buf : List ℕ) (s : State) (rs : List Mapping) where
   module _ (mapping : Mapping) (is : mapping ≡ requestedMapping buf) (v : Verdict) (judged : v ≡ mapChecks (s .«memory_length») (length rs) (inUse (tableOf rs (s .count))) mapping) where
@@ -185,10 +196,27 @@ module _ (buf : List ℕ) (s : State) (rs : List Mapping) where
         (rw (← start-is, ← size-is) (ap (λ (x : ℕ). withCountIn x s) f))
         (rw (← start-is, ← size-is) g)
 
-  pub reset-done : (r : Registers) → r .slots ≡ slotsOf reset → Replies resetDevice buf s rs (done (value 0)) buf (withRegistersIn r s) rs
-  unfolding listedChecks listedEffect emulatorOf machineOf withRegisters requestWrites stateWith recordsWith filled
-  reset-done r e = λ m noted.
-      handled-done resetDevice buf s rs m buf _ rs refl refl (ap (λ (l : List Register). withRegistersIn (record { slots = l }) s) e) refl
+  -- the lines that the request leaves are kept where its checks pass
+  pub set-irqs : (c : IrqChange) → SetsIrqs (s .lines .lines) buf c → (k : Lines) → k ≡ c .lines → Replies setIrqs buf s rs (settle (c .verdict) (value 0)) buf (withLinesIn k s) rs
+  unfolding settle listedChecks listedEffect emulatorOf machineOf withLines requestWrites stateWith recordsWith filled
+  set-irqs c sets k is = λ m noted. by m (c .verdict) refl
+    where
+      kept : (v : Verdict) → c .verdict ≡ v → k .lines ≡ pick (passes v) (changedLines buf (s .lines .lines)) (s .lines .lines)
+      kept v e = ap (λ (x : Lines). x .lines) is ∙ sets .kept ∙ rw e
+
+      by : (m : Memory) (v : Verdict) → c .verdict ≡ v → Handles setIrqs buf s rs m (settle v (value 0)) buf (withLinesIn k s) rs
+      by m Pass e =
+          let now : k .lines ≡ changedLines buf (s .lines .lines) = unfold pick passes in kept Pass e in
+          handled-done setIrqs buf s rs m buf (withLinesIn k s) rs (sym (sets .checks) ∙ e) refl (ap (λ (x : List Line). withLinesIn (record { lines = x }) s) now) refl
+      by m (Fail code place) e =
+          let now : k .lines ≡ s .lines .lines = unfold pick passes in kept (Fail code place) e in
+          let same : withLinesIn k s ≡ s = ap (λ (x : List Line). withLinesIn (record { lines = x }) s) now in
+          subst (λ (x : State). Handles setIrqs buf s rs m (refused code place) buf x rs) (sym same) (handled-refused setIrqs buf s rs m code place (sym (sets .checks) ∙ e))
+
+  pub reset-done : (r : Registers) → r .slots ≡ slotsOf reset → (ls : Lines) → ls .lines ≡ disabledLines → Replies resetDevice buf s rs (done (value 0)) buf (withLinesIn ls (withRegistersIn r s)) rs
+  unfolding listedChecks listedEffect emulatorOf machineOf withLines withRegisters requestWrites stateWith recordsWith filled
+  reset-done r e ls f = λ m noted.
+      handled-done resetDevice buf s rs m buf _ rs refl refl (ap₂ (λ (l : List Register) (k : List Line). withLinesIn (record { lines = k }) (withRegistersIn (record { slots = l }) s)) e f) refl
 
 -- ---- the handler of the entry at an index
 
@@ -196,22 +224,23 @@ pub answers-at : (i k : ℕ) {buf : List ℕ} {r : Answer Result} {buf′ : List
 answers-at i k is h = rw is h
 
 pub plain-at : (i k : ℕ) {buf : List ℕ} {r : Answer Result} {buf′ : List ℕ} → i ≡ k → (k ≡ resetIndex → ⊥) → Answers (entryOf k .request) buf r buf′ → Plain i buf r buf′
-plain-at i k is not h = record { other = λ _ _ _ _. answers-at i k is h; reset = λ e. absurd (not (sym is ∙ e)) }
+plain-at i k is not h = record { other = λ _ _ _ _ _. answers-at i k is h; reset = λ e. absurd (not (sym is ∙ e)) }
 
 above : (i k : ℕ) → k ≤ i → (i ≡ k → ⊥) → k + 1 ≤ i
 above i k le other = omega arith
 
--- an index of the table that is none of those answered before: a change of the IOMMU type, a map, an unmap or a reset
+-- an index of the table that is none of those answered before: a change of the IOMMU type, a map, an unmap, one to the lines, or a reset
 pub plain-rest : (i : ℕ) (buf : List ℕ) → i < requestCount
     → ((((((Unit {0} × (i ≡ 0 → ⊥)) × (i ≡ 1 → ⊥)) × (i ≡ 3 → ⊥)) × (i ≡ 6 → ⊥)) × (i ≡ 7 → ⊥)) × (i ≡ 8 → ⊥))
     → Plain i buf (done (value 0)) buf
 plain-rest i buf lt h =
     let two = above i 1 (above i 0 (omega arith) (h .0 .0 .0 .0 .0 .1)) (h .0 .0 .0 .0 .1) in
     record {
-      other = λ n2 n4 n5 n9.
+      other = λ n2 n4 n5 n9 n10.
           let six = above i 5 (above i 4 (above i 3 (above i 2 two n2) (h .0 .0 .0 .1)) n4) n5 in
-          let ten = above i 9 (above i 8 (above i 7 (above i 6 six (h .0 .0 .1)) (h .0 .1)) (h .1)) n9 in
-          absurd (omega (arith, ten, lt));
+          let nine = above i 8 (above i 7 (above i 6 six (h .0 .0 .1)) (h .0 .1)) (h .1) in
+          let past = above i 10 (above i 9 nine n9) n10 in
+          absurd (omega (arith, past, lt));
       reset = λ e. (refl, refl);
     }
 

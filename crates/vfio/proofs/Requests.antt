@@ -14,7 +14,7 @@ use Rattle.iommu.specs.declared.Mapping.{Mapping}
 use Rattle.memory.specs.Memory.{Memory, edited}
 use Rattle.emulator.specs.Machine.{Emulator, both, usable, emulatorOf}
 use Rattle.emulator.specs.Effect.{Result, effectOf, outcomeOf}
-use Rattle.emulator.specs.Requests.{Request, getApiVersion, checkExtension, setIommu, getIommuInfo, mapDma, unmapDma, getInfo, getRegionInfo, getIrqInfo, resetDevice, Entry, identify, listedChecks, requestChecks, listedEffect, requestEffect, sizeChecks}
+use Rattle.emulator.specs.Requests.{Request, getApiVersion, checkExtension, setIommu, getIommuInfo, mapDma, unmapDma, getInfo, getRegionInfo, getIrqInfo, setIrqs, resetDevice, Entry, identify, listedChecks, requestChecks, listedEffect, requestEffect, sizeChecks}
 use Rattle.emulator.specs.Calls.{request, given, ownChecks, checks, effect, probesOf, outcome}
 use Rattle.emulator.specs.Contract.{entryWrites, requestWrites, writes, Meets}
 use Rattle.emulator.specs.declared.State.{State}
@@ -48,6 +48,7 @@ no-edits unmapDma buf e = refl
 no-edits getInfo buf e = refl
 no-edits getRegionInfo buf e = refl
 no-edits getIrqInfo buf e = refl
+no-edits setIrqs buf e = refl
 no-edits resetDevice buf e = refl
 
 keeps-memory : (v : Verdict) (q : Request) (buf : List ℕ) (e : Emulator) (m : Memory) → m ≡ edited (effectOf v (listedEffect q buf e) (e .machine) .edits) m

@@ -9,7 +9,7 @@ use Rattle.answer.specs.Tests.{pick}
 use Rattle.emulator.specs.Requests.{getApiVersion, Entry, entry, requests}
 
 abbrev pub requestCount : ℕ
-requestCount = 10
+requestCount = 11
 
 -- what is read past the end of the table
 abbrev pub noEntry : Entry

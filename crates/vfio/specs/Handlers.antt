@@ -21,7 +21,10 @@ use Rattle.emulator.specs.Contract.{requestWrites, returned, leftRecords}
 use Rattle.emulator.specs.declared.State.{State}
 use Rattle.vfio.specs.Entries.{entryOf, entryAt}
 use Rattle.vfio.specs.declared.Admission.{Admission}
+use Rattle.interrupts.specs.Requests.{setChecks, changedLines}
+use Rattle.interrupts.specs.declared.Line.{Line}
 use Rattle.vfio.specs.declared.IommuChange.{IommuChange}
+use Rattle.vfio.specs.declared.IrqChange.{IrqChange}
 use Rattle.vfio.specs.declared.Map.{Map}
 
 -- the outcome of a request whose checks 1 to 4 have passed
@@ -57,12 +60,15 @@ mapIndex = 4
 abbrev pub unmapIndex : ℕ
 unmapIndex = 5
 
-abbrev pub resetIndex : ℕ
-resetIndex = 9
+abbrev pub setIrqsIndex : ℕ
+setIrqsIndex = 9
 
--- what an admitted request answers, and leaves in its buffer, that changes neither table nor IOMMU type; a reset has no result
+abbrev pub resetIndex : ℕ
+resetIndex = 10
+
+-- what an admitted request answers, and leaves in its buffer, that changes neither table, IOMMU type nor lines; a reset has no result
 pub record Plain (index : ℕ) (buf : List ℕ) (r : Answer Result) (buf′ : List ℕ) : Type 0 where
-  pub other : (index ≡ setIommuIndex → ⊥) → (index ≡ mapIndex → ⊥) → (index ≡ unmapIndex → ⊥) → (index ≡ resetIndex → ⊥) → Answers (entryOf index .request) buf r buf′
+  pub other : (index ≡ setIommuIndex → ⊥) → (index ≡ mapIndex → ⊥) → (index ≡ unmapIndex → ⊥) → (index ≡ setIrqsIndex → ⊥) → (index ≡ resetIndex → ⊥) → Answers (entryOf index .request) buf r buf′
   pub reset : index ≡ resetIndex → (r ≡ done (value 0)) × (buf′ ≡ buf)
 
 -- the same of one that may have been refused
@@ -74,6 +80,11 @@ pub record Answered (a : Admission) (buf : List ℕ) (r : Answer Result) (buf′
 pub record SetsIommu (count kind : ℕ) (buf : List ℕ) (r : IommuChange) : Type 0 where
   pub checks : r .verdict ≡ setIommuChecks count (requestedType buf)
   pub kept : r .kind ≡ pick (passes (r .verdict)) (requestedType buf) kind
+
+-- the checks of a request to the lines, and the lines to keep: those that it leaves where they pass
+pub record SetsIrqs (lines : List Line) (buf : List ℕ) (r : IrqChange) : Type 0 where
+  pub checks : r .verdict ≡ setChecks buf
+  pub kept : r .lines .lines ≡ pick (passes (r .verdict)) (changedLines buf lines) lines
 
 -- the checks of a map, and the place of the new mapping where they pass
 pub record Maps (size room : ℕ) (ms : List Mapping) (m : Mapping) (r : Map) : Type 0 where

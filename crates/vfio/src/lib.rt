@@ -4,6 +4,7 @@ use address::MemoryAddress;
 use answer::Answer;
 use answer::Verdict;
 use emulator::State;
+use interrupts::Lines;
 use iommu::Mapping;
 use iommu::Search;
 use iommu::Unmap;
@@ -27,7 +28,7 @@ ghost use Rattle.emulator.specs.Effect.{value, output, filled};
 ghost use Rattle.emulator.specs.Requests.{checkExtension, getIommuInfo, mapDma, unmapDma, getInfo, getRegionInfo, getIrqInfo, requestedMapping, requestedStart, requestedSize, argszChecks, identify as identified, sizeChecks};
 ghost use Rattle.emulator.specs.Contract.{told};
 ghost use Rattle.vfio.specs.Entries.{requestCount, entryAt};
-ghost use Rattle.vfio.specs.Handlers.{Answers, Replies, Admits, setIommuIndex, mapIndex, unmapIndex, resetIndex, Plain, Answered, SetsIommu, Maps};
+ghost use Rattle.vfio.specs.Handlers.{Answers, Replies, Admits, setIommuIndex, setIrqsIndex, mapIndex, unmapIndex, resetIndex, Plain, Answered, SetsIommu, SetsIrqs, Maps};
 
 // What checks 1 to 4 of a request come to, and the index of the request in the table.
 pub struct Admission {
@@ -39,6 +40,12 @@ pub struct Admission {
 pub struct IommuChange {
     pub verdict: Verdict,
     pub kind: u32,
+}
+
+// What a request to the interrupt lines comes to: its checks, and the lines to keep.
+pub struct IrqChange {
+    pub verdict: Verdict,
+    pub lines: Lines,
 }
 
 // What a map comes to: its checks, and the place of the new record.
@@ -60,7 +67,7 @@ const CONTAINER: u32 = 0;
 
 const DEVICE: u32 = 1;
 
-const REQUESTS: usize = 10;
+const REQUESTS: usize = 11;
 
 // The index of each request in the columns below.
 const GET_API_VERSION: usize = 0;
@@ -81,29 +88,33 @@ const GET_REGION_INFO: usize = 7;
 
 const GET_IRQ_INFO: usize = 8;
 
-const RESET_DEVICE: usize = 9;
+const SET_IRQS: usize = 9;
 
-const TARGETS: [u32; 10] = [
+const RESET_DEVICE: usize = 10;
+
+const TARGETS: [u32; 11] = [
     CONTAINER,
     CONTAINER,
     CONTAINER,
     CONTAINER,
     CONTAINER,
     CONTAINER,
+    DEVICE,
     DEVICE,
     DEVICE,
     DEVICE,
     DEVICE,
 ];
 
-const NUMBERS: [u32; 10] = [100, 101, 102, 112, 113, 114, 107, 108, 109, 111];
+const NUMBERS: [u32; 11] = [100, 101, 102, 112, 113, 114, 107, 108, 109, 110, 111];
 
-const SIZES: [usize; 10] = [0, 4, 4, 16, 32, 24, 16, 32, 16, 0];
+const SIZES: [usize; 11] = [0, 4, 4, 16, 32, 24, 16, 32, 16, 20, 0];
 
-const ARGSZ_FIRST: [bool; 10] = [
+const ARGSZ_FIRST: [bool; 11] = [
     false,
     false,
     false,
+    true,
     true,
     true,
     true,
@@ -425,10 +436,6 @@ const REGION_FLAGS: [u32; 9] = [7, 0, 0, 0, 0, 0, 0, 3, 0];
 // A region lies at its index times 2^40.
 const REGION_STRIDE: u64 = 0x10000000000;
 
-const INTERRUPT_COUNTS: [u32; 4] = [1, 8, 16, 0];
-
-const INTERRUPT_FLAGS: [u32; 4] = [7, 9, 9, 0];
-
 fn get_info(buf: &mut [u8]) -> Answer
     requires { ⌜ 16 ≤ length (now buf) ⌝ }
     ensures { λ r. ⌜ Answers getInfo (now (buf .entry)) (told r) (now (buf .exit)) ⌝ }
@@ -464,10 +471,36 @@ fn get_irq_info(buf: &mut [u8]) -> Answer
     if INTERRUPTS <= index {
         return Answer::Refused(answer::INDEX, 0);
     }
-    let i = index as usize;
-    wire::put_u32(buf, 4, INTERRUPT_FLAGS[i]);
-    wire::put_u32(buf, 12, INTERRUPT_COUNTS[i]);
+    wire::put_u32(buf, 4, interrupts::flags_of(index));
+    wire::put_u32(buf, 12, interrupts::count_of(index));
     Answer::Done(0)
+}
+
+// The checks of a request that sets interrupt lines up or acts on them, and the lines to keep.
+pub fn plan_irqs(lines: Lines, buf: &[u8]) -> IrqChange
+    requires { ⌜ (20 ≤ length (now buf)) × (field (now buf) 0 4 ≤ length (now buf)) ⌝ }
+    ensures { λ r. ⌜ SetsIrqs (lines .lines) (now (buf .entry)) r ⌝ }
+{
+    let verdict = interrupts::check_set(buf);
+    match verdict {
+        Verdict::Pass => {
+            let next = interrupts::set(lines, buf);
+            IrqChange {
+                verdict: Verdict::Pass,
+                lines: next,
+            }
+        }
+        Verdict::Fail(code, place) => IrqChange {
+            verdict: Verdict::Fail(code, place),
+            lines,
+        },
+    }
+}
+
+pub fn kept_lines(c: IrqChange) -> Lines
+    ensures { λ r. ⌜ r ≡ c .lines ⌝ }
+{
+    c.lines
 }
 
 // ---- the call
@@ -501,6 +534,12 @@ pub fn sets_iommu(a: Admission) -> bool
     ensures { λ r. ⌜ r ≡ (passes (a .verdict) and eqb (a .index) setIommuIndex) ⌝ }
 {
     admitted_as(a, SET_IOMMU)
+}
+
+pub fn sets_irqs(a: Admission) -> bool
+    ensures { λ r. ⌜ r ≡ (passes (a .verdict) and eqb (a .index) setIrqsIndex) ⌝ }
+{
+    admitted_as(a, SET_IRQS)
 }
 
 pub fn maps(a: Admission) -> bool

@@ -89,7 +89,7 @@ fn contenders(measure: &mut Measure, rivals: &[Rival]) -> Vec<Contender> {
 mod tests {
     use super::*;
     use crate::world::{unmap_request, PAGE};
-    use glintbasket::raw::{Mapping, State};
+    use glintbasket::raw::{self, Mapping, State, LINES};
     use glintbasket::{
         Bench, DeviceAddress, IommuType, MemoryAddress, OwnedBench, Rights, Target, DEVICE_LIMIT,
     };
@@ -178,6 +178,21 @@ mod tests {
                 assert_eq!(plain_buffer, buffer, "{unmap}");
                 assert_eq!((state, &records[..]), (*bench.state(), bench.records()));
             }
+        }
+    }
+
+    /// Both ask the same of each interrupt line.
+    #[test]
+    fn the_plain_program_refuses_the_lines_that_the_emulator_refuses() {
+        let world = World::full(1, 1);
+        for (place, number) in (0..LINES).flat_map(|i| [-2, -1, 0, i32::MIN].map(|n| (i, n))) {
+            let mut state = world.state;
+            state.lines[place].number = number;
+            let device = world.records[0].device;
+            let emulator = raw::look_up(&state, &world.records, device).outcome;
+            let plain = plain::look_up(&state, &world.records, device);
+            assert_eq!(emulator.refused, number < -1, "{number} at {place}");
+            assert_eq!(plain.is_err(), emulator.refused, "{number} at {place}");
         }
     }
 

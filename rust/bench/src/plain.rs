@@ -29,6 +29,7 @@ fn refuse<T>(code: u32) -> Answer<T> {
 fn sound(state: &State, records: &[Mapping]) -> bool {
     state.card().is_some()
         && IommuType::from_number(state.iommu_type).is_some()
+        && state.lines.iter().all(|line| line.number >= -1)
         && state.memory_length <= MEMORY_LIMIT as u64
         && sound_registers(state)
         && sound_table(state, records)

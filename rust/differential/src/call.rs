@@ -4,6 +4,8 @@ use std::fmt;
 
 use glintbasket::{Card, Mapping, State};
 
+use crate::interrupts::Fields;
+
 /// A state, and the records that are lent beside it.
 #[derive(Clone, Debug, PartialEq, Eq)]
 pub struct Kept {
@@ -38,6 +40,7 @@ pub enum Call {
     FreshStart { card: Card },
     Request { target: u32, number: u32 },
     LookUp { device: u64 },
+    ShowLine { index: u32, line: u32 },
     CardRead { device: u64 },
     CardWrite { device: u64 },
     HostStore { address: u64 },
@@ -60,6 +63,12 @@ pub enum Answer {
         rights: u64,
         left: u64,
         probes: u64,
+    },
+    Line {
+        number: i64,
+        masked: bool,
+        pending: bool,
+        tally: u64,
     },
     Part {
         kind: u64,
@@ -140,15 +149,16 @@ impl Made {
 }
 
 impl Call {
-    /// Whether the buffer's byte at this offset is stale (rule 3.7): no input field, byte to store,
-    /// value to set or stream.
-    pub fn is_stale(&self, offset: usize) -> bool {
+    /// Whether the byte at this offset of the call's buffer is stale (rule 3.7): no input field, datum,
+    /// byte to store, value to set or stream.
+    pub fn is_stale(&self, buffer: &[u8], offset: usize) -> bool {
         let input = match *self {
             Call::Request { target, number } => match (target, number) {
                 (0, 101) | (0, 102) | (0, 112) | (1, 107) => offset < 4,
                 (0, 113) => offset < 32,
                 (0, 114) => offset < 24,
                 (1, 108) | (1, 109) => offset < 4 || (8..12).contains(&offset),
+                (1, 110) => (offset as u64) < 20 + data_length(buffer),
                 _ => false,
             },
             Call::CardWrite { .. }
@@ -165,6 +175,7 @@ impl Call {
         !matches!(
             self,
             Call::LookUp { .. }
+                | Call::ShowLine { .. }
                 | Call::SetRegister { .. }
                 | Call::ReadRegister { .. }
                 | Call::LoadParts
@@ -174,6 +185,15 @@ impl Call {
                 | Call::Walk { .. }
         )
     }
+}
+
+/// How many bytes behind the fields of request 110 are data (rule 3.27).
+fn data_length(buffer: &[u8]) -> u64 {
+    if buffer.len() < 20 {
+        return 0;
+    }
+    let fields = Fields::read(buffer);
+    fields.count * fields.width()
 }
 
 impl fmt::Display for Step {
@@ -249,6 +269,45 @@ impl fmt::Display for Shown<'_> {
                 write!(f, " {slot}:{}", Hex(&register.bytes))?;
             }
         }
+        write!(f, ", lines")?;
+        for (place, line) in state.lines.iter().enumerate() {
+            if (line.number, line.tally, line.masked, line.pending) != (-1, 0, 0, 0) {
+                let (number, tally) = (line.number, line.tally);
+                write!(
+                    f,
+                    " {place}:{number}/{}/{}/{tally}",
+                    line.masked, line.pending
+                )?;
+            }
+        }
         write!(f, ", running {}]", state.running)
+    }
+}
+
+#[cfg(test)]
+mod tests {
+    use super::*;
+    use crate::interrupts::{BOOL, EVENT, NONE, SET_IRQS, TRIGGER};
+
+    /// Rule 3.27: as many data as are read, whatever argsz says, and none where there are no data.
+    #[test]
+    fn data_behind_those_that_are_read_are_stale() {
+        let input = |flags: u64, count: u32, length| {
+            let fields = [20, flags as u32, 2, 0, count];
+            let mut buffer: Vec<u8> = fields.into_iter().flat_map(u32::to_le_bytes).collect();
+            buffer.resize(length, 0);
+            let stale = |i: &usize| SET_IRQS.is_stale(&buffer, *i);
+            (0..length).take_while(|i| !stale(i)).count()
+        };
+        assert_eq!(input(NONE | TRIGGER, 3, 40), 20);
+        assert_eq!(input(BOOL | TRIGGER, 3, 40), 23);
+        assert_eq!(input(EVENT | TRIGGER, 3, 40), 32);
+        assert_eq!(input(EVENT | TRIGGER, u32::MAX, 40), 40);
+        assert_eq!(input(BOOL | EVENT, 3, 40), 20);
+        assert_eq!(input(EVENT | TRIGGER, 0, 40), 20);
+        assert_eq!(
+            [0, 19].map(|offset| SET_IRQS.is_stale(&[0; 19], offset)),
+            [false, false]
+        );
     }
 }

@@ -2,6 +2,7 @@
 
 use std::fmt::Write;
 
+use glintbasket::raw::LINES;
 use glintbasket::{DeviceAddress, Mapping, MemoryAddress, Rights, RECORDS_LIMIT};
 
 use crate::call::Kept;
@@ -14,7 +15,7 @@ const MEMORY_LIMIT: u64 = 1 << 30;
 
 /// The causes: what rule 1.12 rules out.
 #[rustfmt::skip]
-pub const CAUSES: [&str; 23] = [
+pub const CAUSES: [&str; 24] = [
     "a count above the records",
     "mappings out of order",
     "mappings that overlap",
@@ -38,6 +39,7 @@ pub const CAUSES: [&str; 23] = [
     "notify value",
     "more than 4,096 records",
     "no such IOMMU type",
+    "event number below -1",
 ];
 
 /// Numbers that are no IOMMU type; in those with a high byte, the low one is.
@@ -53,6 +55,9 @@ pub const NO_TYPES: [u32; 10] = [
     0x0300_0000,
     u32::MAX,
 ];
+
+/// Event numbers that no line may have; the low bytes of some would do.
+pub const LOW_NUMBERS: [i32; 5] = [-2, -3, -0x100, -0x7fff_fffb, i32::MIN];
 
 #[derive(Default)]
 pub struct Damages {
@@ -200,6 +205,10 @@ pub fn damaged(sound: &Kept, random: &mut Random) -> (usize, Kept) {
             records.resize(length, Mapping::default());
         }
         "no such IOMMU type" => state.iommu_type = random.pick(&NO_TYPES),
+        "event number below -1" => {
+            let line = random.below(LINES as u64) as usize;
+            state.lines[line].number = random.pick(&LOW_NUMBERS);
+        }
         _ => unreachable!(),
     }
     (cause, kept)

@@ -5,16 +5,18 @@ use std::fmt::Write;
 
 use glint_reference::bench::{mark_bytes, DeviceAddress, DeviceRange, Mapping, PAGE};
 use glint_reference::bytes::number_at;
+use glint_reference::lines::{self, Line, Lines};
 use glintbasket::raw::SLOTS;
 
 use crate::call::{Answer, Call, Made, Step};
+use crate::interrupts::{self, Fields};
 use crate::trio::Trio;
 
 const TOP: u64 = 1 << 48;
 const LONGEST: usize = 65_536;
 
 #[rustfmt::skip]
-pub const EVENTS: [&str; 107] = [
+pub const EVENTS: [&str; 137] = [
     "card read of 65,536 bytes accepted",
     "card write of 65,536 bytes accepted",
     "host store of 65,536 bytes accepted",
@@ -122,6 +124,36 @@ pub const EVENTS: [&str; 107] = [
     "unmap under Type1 of several mappings at once, the last of which ends beyond",
     "unmap under Type1 of nothing, with nothing that blocks",
     "unmap under Type1 between mappings that stay",
+    "trigger that a line counts, and is not masked by",
+    "trigger that a line counts, and is masked by",
+    "trigger of a masked line, which becomes pending",
+    "trigger of a masked line that is pending",
+    "trigger of a pending line that is not masked",
+    "trigger of a line with the greatest tally",
+    "trigger of a line without a number",
+    "mask of a line",
+    "unmask of a masked line with nothing pending",
+    "unmask of a masked line that is pending",
+    "unmask of a pending line that is not masked",
+    "mask or unmask of a line without a number",
+    "event number stored over another",
+    "-1 stored over an event number",
+    "byte above 1 that selects a line with a number",
+    "byte 0 that leaves a line with a number",
+    "index disabled with start above 0",
+    "index without lines disabled",
+    "device 110 with no data and bytes behind its fields accepted",
+    "device 110 with a number below -1 behind those that count accepted",
+    "device 110 gives 5 for event numbers without trigger",
+    "device 110 gives 5 for an index that is not maskable",
+    "device 110 gives 9 with count 0",
+    "device 110 gives 9 where start + count would wrap to lines that there are",
+    "device 110 gives 4 for data past argsz, which the buffer has",
+    "device 110 gives 22 for a number behind good ones",
+    "reset with a line set up accepted",
+    "fresh start with a line set up accepted",
+    "load with a line set up accepted",
+    "line shown whose byte for a flag is above 1",
 ];
 
 const FEW_MARKS: usize = 34;
@@ -179,6 +211,36 @@ const MORE_THAN_ASKED: usize = 103;
 const SEVERAL_BEYOND: usize = 104;
 const NONE_BLOCKS: usize = 105;
 const RUN_BETWEEN: usize = 106;
+const COUNTED: usize = 107;
+const AUTOMASKED: usize = 108;
+const NOTED: usize = 109;
+const NOTED_AGAIN: usize = 110;
+const COUNTED_PENDING: usize = 111;
+const TALLY_WRAPS: usize = 112;
+const TRIGGERED_OFF: usize = 113;
+const MASKED: usize = 114;
+const UNMASKED: usize = 115;
+const UNMASKED_PENDING: usize = 116;
+const PENDING_ALONE: usize = 117;
+const MASKED_OFF: usize = 118;
+const STORED_OVER: usize = 119;
+const STORED_NONE: usize = 120;
+const BYTE_ABOVE_1: usize = 121;
+const BYTE_0: usize = 122;
+const DISABLED_BEHIND: usize = 123;
+const DISABLED_NONE: usize = 124;
+const BYTES_BEHIND: usize = 125;
+const LOW_BEHIND: usize = 126;
+const NO_TRIGGER: usize = 127;
+const NOT_MASKABLE: usize = 128;
+const RANGE_EMPTY: usize = 129;
+const RANGE_WRAPS: usize = 130;
+const FEW_DATA: usize = 131;
+const LATER_LOW: usize = 132;
+const RESET_LINES: usize = 133;
+const START_LINES: usize = 134;
+const LOAD_LINES: usize = 135;
+const SHOWN_ABOVE_1: usize = 136;
 
 pub struct Events {
     counts: [u64; EVENTS.len()],
@@ -207,6 +269,10 @@ pub struct Before {
     /// Of an unmap: the mappings held.
     mappings: Vec<Mapping>,
     iommu_type: u64,
+    /// Of request 110: the lines.
+    lines: Lines,
+    /// Whether a line is not as a reset leaves it.
+    lines_set_up: bool,
     /// Whether the records are others than at the last call.
     exchanged: bool,
     /// The flags of the kept struct: whether the one for running is above 1, and whether each register's is.
@@ -229,6 +295,7 @@ impl Events {
             held: state.mappings().len(),
             registers: state.registers.len(),
             iommu_type: state.iommu_type,
+            lines_set_up: state.lines.iter().flatten().any(|l| *l != Line::disabled()),
             exchanged: trio.exchanged,
             running_above: trio.kept().state.running > 1,
             set_above: trio.kept().state.registers.slots.map(|r| r.set > 1),
@@ -269,6 +336,7 @@ impl Events {
                 target: 0,
                 number: 114,
             } => before.mappings = state.mappings().to_vec(),
+            interrupts::SET_IRQS => before.lines = state.lines.clone(),
             _ => {}
         }
         before
@@ -291,6 +359,7 @@ impl Events {
             Call::FreshStart { .. } => {
                 self.saw(30, done && trio.state.words == 2);
                 self.saw(TYPE1_START, done && before.iommu_type == 1);
+                self.saw(START_LINES, done && before.lines_set_up);
                 let (memory, marks) = (made.lent.memory, made.lent.marks);
                 self.saw(START_WITH_NONE, done && records == 0);
                 self.saw(START_WITH_ALL, done && records == 4096);
@@ -360,7 +429,21 @@ impl Events {
             Call::Request {
                 target: 1,
                 number: 111,
-            } => self.saw(TYPE1_RESET, done && before.iommu_type == 1),
+            } => {
+                self.saw(TYPE1_RESET, done && before.iommu_type == 1);
+                self.saw(RESET_LINES, done && before.lines_set_up);
+            }
+            interrupts::SET_IRQS if length >= 20 => {
+                let fields = Fields::read(&made.buffer);
+                match answer.refusal() {
+                    None => self.lines_changed(&fields, &made.buffer, &before.lines),
+                    Some(refusal) => self.lines_refused(&fields, &made.buffer, refusal),
+                }
+            }
+            Call::ShowLine { index, line } if done => {
+                let line = trio.state.lines[index as usize][line as usize];
+                self.saw(SHOWN_ABOVE_1, line.masked > 1 || line.pending > 1);
+            }
             Call::Forget { address, length } => {
                 self.saw(6, done && length == 0 && address == noted);
                 let end = address.checked_add(length);
@@ -418,6 +501,7 @@ impl Events {
             Call::LoadParts => {
                 self.saw(18, done && length == LONGEST);
                 self.saw(19, done && trio.state.registers.len() < before.registers);
+                self.saw(LOAD_LINES, done && before.lines_set_up);
                 self.saw(28, done && has_empty_queue(trio));
                 self.saw(32, done && trio.state.words == 2);
                 // A stream that begins with them.
@@ -499,6 +583,84 @@ impl Events {
         self.saw(MORE_THAN_ASKED, sizes > range.end - range.first);
         let around = held[0] != **first && held[held.len() - 1] != **last;
         self.saw(RUN_BETWEEN, around);
+    }
+
+    /// Of a request 110 that was accepted on these lines.
+    fn lines_changed(&mut self, fields: &Fields, buffer: &[u8], lines: &Lines) {
+        if fields.disables() {
+            self.saw(DISABLED_BEHIND, fields.start > 0);
+            self.saw(DISABLED_NONE, fields.index == 3);
+            return;
+        }
+        let no_data = fields.kind == interrupts::NONE;
+        self.saw(BYTES_BEHIND, no_data && buffer.len() > 20);
+        let (first, count) = (fields.start as usize, fields.count as usize);
+        let range = &lines[fields.index as usize][first..first + count];
+        for (offset, line) in range.iter().enumerate() {
+            let assigned = line.number >= 0;
+            match fields.kind {
+                interrupts::EVENT => {
+                    let number = interrupts::event_at(buffer, offset);
+                    self.saw(STORED_OVER, assigned && number >= Some(0));
+                    self.saw(STORED_NONE, assigned && number == Some(-1));
+                }
+                interrupts::BOOL if buffer[20 + offset] == 0 => self.saw(BYTE_0, assigned),
+                _ => {
+                    let above_1 = !no_data && buffer[20 + offset] > 1;
+                    self.saw(BYTE_ABOVE_1, above_1 && assigned);
+                    self.acted_on(line, fields);
+                }
+            }
+        }
+        if fields.kind == interrupts::EVENT {
+            let behind = interrupts::event_at(buffer, count);
+            self.saw(LOW_BEHIND, behind.is_some_and(|number| number < -1));
+        }
+    }
+
+    /// Of a line that request 110 selected.
+    fn acted_on(&mut self, line: &Line, fields: &Fields) {
+        let (masked, pending) = (line.is_masked(), line.is_pending());
+        let triggers = fields.action == interrupts::TRIGGER;
+        if line.number < 0 {
+            self.saw(TRIGGERED_OFF, triggers);
+            self.saw(MASKED_OFF, !triggers);
+        } else if triggers {
+            self.saw(COUNTED, !masked && fields.index > 0);
+            self.saw(AUTOMASKED, !masked && fields.index == 0);
+            self.saw(NOTED, masked && !pending);
+            self.saw(NOTED_AGAIN, masked && pending);
+            self.saw(COUNTED_PENDING, !masked && pending);
+            self.saw(TALLY_WRAPS, !masked && line.tally == u64::from(u32::MAX));
+        } else if fields.action == interrupts::MASK {
+            self.saw(MASKED, !masked);
+        } else {
+            self.saw(UNMASKED, masked && !pending);
+            self.saw(UNMASKED_PENDING, masked && pending);
+            self.saw(PENDING_ALONE, !masked && pending);
+        }
+    }
+
+    /// Of a request 110 that was refused.
+    fn lines_refused(&mut self, fields: &Fields, buffer: &[u8], refusal: u64) {
+        let (start, count) = (fields.start, fields.count);
+        let one_each = fields.is_one_kind_and_action();
+        let no_trigger = one_each && fields.action != interrupts::TRIGGER;
+        let events = fields.kind == interrupts::EVENT;
+        self.saw(NO_TRIGGER, refusal == 5 && no_trigger && events);
+        self.saw(NOT_MASKABLE, refusal == 5 && no_trigger && !events);
+        self.saw(RANGE_EMPTY, refusal == 9 && count == 0);
+        if let Some((lines, _)) = lines::INDICES.get(fields.index as usize) {
+            let wraps = start + count > u64::from(u32::MAX);
+            let wrapped = (start + count) % (1 << 32);
+            self.saw(RANGE_WRAPS, refusal == 9 && wraps && wrapped <= *lines);
+        }
+        let needed = 20 + count.saturating_mul(fields.width());
+        let argsz = number_at(buffer, 0, 4);
+        let has_them = argsz >= 20 && needed <= buffer.len() as u64;
+        self.saw(FEW_DATA, refusal == 4 && has_them && argsz < needed);
+        let good = |offset| interrupts::event_at(buffer, offset) >= Some(-1);
+        self.saw(LATER_LOW, refusal == 22 && good(0));
     }
 
     /// Of a look-up that looked at so many mappings of those held, and found the last of them.

@@ -8,6 +8,7 @@ use glintbasket::{
 
 use crate::call::{Call, Kept, Lent, Made, Step};
 use crate::damage::{self, Damages};
+use crate::interrupts;
 use crate::random::Random;
 use crate::streams;
 use crate::trio::{garble, Size, Trio};
@@ -101,6 +102,8 @@ impl Generator {
                 let device = self.looked_up(trio);
                 self.made(trio, Call::LookUp { device }, Vec::new())
             }
+            // Few lists have more than may be lent.
+            154..=163 if trio.records() > RECORDS_LIMIT => self.start_with_too_many(trio),
             34..=37 => self.store_all(trio),
             58..=63 => Step::Stale {
                 seed: self.random.number(),
@@ -117,6 +120,19 @@ impl Generator {
                 self.made(trio, call, buffer)
             }
         }
+    }
+
+    /// A fresh start with all else in order.
+    fn start_with_too_many(&mut self, trio: &Trio) -> Step {
+        let card = self.card();
+        let mut lent = lent(trio, noted(trio));
+        lent.records = RECORDS_LIMIT + 1;
+        Step::Make(Box::new(Made {
+            call: Call::FreshStart { card },
+            buffer: Vec::new(),
+            lent,
+            given: None,
+        }))
     }
 
     /// The call on the kept state, with all records that may be lent, memory of this length and its
@@ -248,6 +264,7 @@ impl Generator {
             running: u8::from(random.one_in(8)),
             words: random.pick(&[1, 2]),
             iommu_type: random.pick(&[1, 3]),
+            lines: interrupts::sound_lines(random),
             ..State::default()
         };
         let pages = state.memory_length / PAGE;
@@ -313,7 +330,7 @@ impl Generator {
     // ---- calls
 
     fn call(&mut self, trio: &Trio) -> (Call, Vec<u8>) {
-        match self.random.below(1000) {
+        match self.random.below(1100) {
             0..=4 => (Call::FreshStart { card: self.card() }, Vec::new()),
             5..=309 => self.request(trio),
             310..=359 => {
@@ -350,7 +367,9 @@ impl Generator {
             940..=959 => (Call::SaveParts, self.save_buffer(trio)),
             960..=974 => (Call::Stop, Vec::new()),
             975..=979 => (Call::Start, Vec::new()),
-            _ => self.walk(trio),
+            980..=999 => self.walk(trio),
+            1000..=1079 => interrupts::set_irqs(&mut self.random),
+            _ => (interrupts::show_line(&mut self.random), Vec::new()),
         }
     }
 
@@ -781,7 +800,7 @@ fn lent(trio: &Trio, memory: usize) -> Lent {
 }
 
 /// Puts a field where the buffer reaches.
-fn put(buffer: &mut [u8], at: usize, width: usize, number: u64) {
+pub fn put(buffer: &mut [u8], at: usize, width: usize, number: u64) {
     let bytes = number.to_le_bytes();
     for (i, byte) in bytes[..width].iter().enumerate() {
         if let Some(place) = buffer.get_mut(at + i) {

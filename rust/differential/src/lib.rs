@@ -7,6 +7,7 @@ pub mod call;
 pub mod damage;
 pub mod events;
 pub mod generate;
+pub mod interrupts;
 pub mod meaning;
 pub mod pairs;
 pub mod programs;

@@ -1,8 +1,9 @@
 //! What a state of the emulator and its records mean, in the second program's terms.
 
 use glint_reference::bench::{self, DeviceAddress, Mapping, MemoryAddress};
+use glint_reference::lines::{Line, Lines, INDICES};
 use glint_reference::registers::Registers;
-use glintbasket::raw::SLOTS;
+use glintbasket::raw::{self, SLOTS};
 use glintbasket::State;
 
 use crate::call::Kept;
@@ -14,6 +15,21 @@ pub fn mapping(m: &glintbasket::Mapping) -> Mapping {
         size: m.size,
         rights: u64::from(m.rights.0),
     }
+}
+
+fn line(l: &raw::Line) -> Line {
+    Line {
+        number: l.number.into(),
+        masked: l.masked,
+        pending: l.pending,
+        tally: l.tally.into(),
+    }
+}
+
+/// The lines of each index, one index after the other.
+fn lines(all: &[raw::Line]) -> Lines {
+    let mut all = all.iter().map(line);
+    INDICES.map(|(count, _)| all.by_ref().take(count as usize).collect())
 }
 
 /// How many bytes of a slot are its value; no card has more words than a register has room for.
@@ -45,6 +61,7 @@ pub fn meaning(kept: &Kept) -> bench::State {
         words: state.words.into(),
         iommu_type: state.iommu_type.into(),
         registers,
+        lines: lines(&state.lines),
     }
 }
 
@@ -56,6 +73,11 @@ pub fn means(state: &State, other: &bench::State) -> bool {
         && u64::from(state.words) == other.words
         && u64::from(state.iommu_type) == other.iommu_type
         && state.count as u64 == other.count
+        && state
+            .lines
+            .iter()
+            .map(line)
+            .eq(other.lines.iter().flatten().copied())
         && registers == other.registers.len()
         && state
             .registers

@@ -21,7 +21,7 @@ const ANSWERS: usize = 31;
 type Row = (&'static str, &'static [usize]);
 
 #[rustfmt::skip]
-pub const ROWS: [Row; 28] = [
+pub const ROWS: [Row; 30] = [
     ("fresh start",           &[DONE, 1]),
     ("request not listed",    &[1, 2]),
     ("container 100",         &[DONE, 1]),
@@ -36,8 +36,10 @@ pub const ROWS: [Row; 28] = [
     ("device 107",            &[DONE, 1, 3, 4]),
     ("device 108",            &[DONE, 1, 3, 4, 6]),
     ("device 109",            &[DONE, 1, 3, 4, 6]),
+    ("device 110 lines",      &[DONE, 1, 3, 4, 5, 6, 9, 8, 22]),
     ("device 111 reset",      &[DONE, 1]),
     ("look-up",               &[DONE, 1, 9, 14, NONE_HELD]),
+    ("show line",             &[DONE, 1, 6]),
     ("card read",             &[DONE, 1, 13, 9, 14, 15, 16]),
     ("card write",            &[DONE, 1, 13, 9, 14, 15]),
     ("host store",            &[DONE, 1, 13, 9]),
@@ -83,11 +85,13 @@ pub fn row_of(call: &Call, state: &State) -> usize {
             107 => "device 107",
             108 => "device 108",
             109 => "device 109",
+            110 => "device 110 lines",
             111 => "device 111 reset",
             _ => "request not listed",
         },
         Call::Request { .. } => "request not listed",
         Call::LookUp { .. } => "look-up",
+        Call::ShowLine { .. } => "show line",
         Call::CardRead { .. } => "card read",
         Call::CardWrite { .. } => "card write",
         Call::HostStore { .. } => "host store",
@@ -125,7 +129,9 @@ impl Pairs {
     /// Counts an answer of a [row](row_of).
     pub fn count(&mut self, row: usize, answer: &Answer) {
         let column = match *answer {
-            Answer::Done(_) | Answer::Found { .. } | Answer::Part { .. } => DONE,
+            Answer::Done(_) | Answer::Found { .. } | Answer::Line { .. } | Answer::Part { .. } => {
+                DONE
+            }
             Answer::End => END,
             Answer::Refused { code, .. } => code as usize,
             Answer::NotFound { probes: 0, .. } => NONE_HELD,

@@ -270,7 +270,7 @@ impl Trio {
         let twin_before = twin_given.as_ref().unwrap_or(&self.twin.kept).clone();
         let mut twin_buffer = made.buffer.clone();
         for (i, byte) in twin_buffer.iter_mut().enumerate() {
-            if call.is_stale(i) {
+            if call.is_stale(&made.buffer, i) {
                 *byte ^= stale;
             }
         }

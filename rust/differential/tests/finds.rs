@@ -2,9 +2,12 @@
 //! notice and shorten the list.
 
 use glint_differential::call::{Answer, Call};
+use glint_differential::interrupts::{event_at, Fields, BOOL, EVENT, SET_IRQS, TRIGGER};
 use glint_differential::run::{run_list, Coverage, Difference};
 use glint_differential::trio::{faithful, Given, Left, Tamper};
 use glint_reference::bytes::{number_at, put_number};
+use glint_reference::lines::INDICES;
+use glintbasket::raw::Line;
 use glintbasket::Mapping;
 
 const SET_IOMMU: Call = Call::Request {
@@ -256,6 +259,174 @@ fn an_iommu_type_that_a_reset_changes_is_found() {
             left.kept.state.iommu_type = 3;
         }
         answer
+    });
+    assert!(difference.shortened().len() <= 4, "{}", difference.report());
+}
+
+// ---- interrupt lines
+
+/// What request 110 was asked for, and where its range begins among all lines.
+fn asked_lines(given: &Given) -> Option<(Fields, usize)> {
+    if *given.call != SET_IRQS || given.buffer.len() < 20 {
+        return None;
+    }
+    let fields = Fields::read(given.buffer);
+    let before = INDICES.iter().take(fields.index as usize);
+    let first: u64 = before.map(|(count, _)| *count).sum();
+    Some((fields, (first + fields.start) as usize))
+}
+
+/// Calls `change` for each line with a number that an accepted trigger selects: with whether its index
+/// is automasked, with the line as it was, and with the line that is left.
+fn each_triggered(
+    given: &Given,
+    answer: Answer,
+    left: &mut Left,
+    change: fn(bool, &Line, &mut Line),
+) {
+    let Some((fields, first)) = asked_lines(given) else {
+        return;
+    };
+    if answer != Answer::Done(0) || fields.action != TRIGGER || fields.kind == EVENT {
+        return;
+    }
+    for offset in 0..fields.count as usize {
+        let selected = fields.kind != BOOL || given.buffer[20 + offset] != 0;
+        let was = &given.kept.state.lines[first + offset];
+        if selected && was.number >= 0 {
+            let line = &mut left.kept.state.lines[first + offset];
+            change(fields.index == 0, was, line);
+        }
+    }
+}
+
+/// So that the tests below change what a trigger does, and nothing else.
+#[test]
+fn what_a_trigger_does_may_be_done_instead() {
+    no_difference(|given, answer, left| {
+        each_triggered(given, answer, left, |automasked, was, line| {
+            *line = *was;
+            match (was.masked, automasked) {
+                (1, _) => line.pending = 1,
+                (_, false) => line.tally = was.tally.wrapping_add(1),
+                (_, true) => (line.tally, line.masked) = (was.tally.wrapping_add(1), 1),
+            }
+        });
+        answer
+    });
+}
+
+#[test]
+fn a_trigger_of_a_masked_line_that_is_counted_is_found() {
+    let difference = first_difference(|given, answer, left| {
+        each_triggered(given, answer, left, |_, was, line| {
+            line.tally = was.tally.wrapping_add(1);
+        });
+        answer
+    });
+    assert!(difference.shortened().len() <= 4, "{}", difference.report());
+}
+
+#[test]
+fn a_trigger_that_clears_what_is_pending_is_found() {
+    let difference = first_difference(|given, answer, left| {
+        each_triggered(given, answer, left, |_, was, line| {
+            if was.masked != 1 && was.pending == 1 {
+                line.pending = 0;
+            }
+        });
+        answer
+    });
+    assert!(difference.shortened().len() <= 4, "{}", difference.report());
+}
+
+#[test]
+fn a_mask_set_by_a_trigger_on_every_index_is_found() {
+    let difference = first_difference(|given, answer, left| {
+        each_triggered(given, answer, left, |_, _, line| line.masked = 1);
+        answer
+    });
+    assert!(difference.shortened().len() <= 4, "{}", difference.report());
+}
+
+/// As if start + count were a sum in 32 bits.
+#[test]
+fn a_range_of_lines_that_wraps_is_found() {
+    let difference = first_difference(|given, answer, _| {
+        let Some((fields, _)) = asked_lines(given) else {
+            return answer;
+        };
+        let Some((lines, _)) = INDICES.get(fields.index as usize) else {
+            return answer;
+        };
+        let wrapped = (fields.start + fields.count) % (1 << 32);
+        match answer {
+            Answer::Refused { code: 9, .. } if wrapped <= *lines => Answer::Done(0),
+            other => other,
+        }
+    });
+    assert!(difference.shortened().len() <= 3, "{}", difference.report());
+}
+
+/// As if only byte 1 selected a line.
+#[test]
+fn bytes_above_1_that_select_no_line_are_found() {
+    let difference = first_difference(|given, answer, left| {
+        if let Some((fields, first)) = asked_lines(given) {
+            if fields.kind == BOOL && answer == Answer::Done(0) {
+                for offset in 0..fields.count as usize {
+                    if given.buffer[20 + offset] > 1 {
+                        let place = first + offset;
+                        left.kept.state.lines[place] = given.kept.state.lines[place];
+                    }
+                }
+            }
+        }
+        answer
+    });
+    assert!(difference.shortened().len() <= 4, "{}", difference.report());
+}
+
+/// As if each number were stored as soon as it is judged.
+#[test]
+fn numbers_stored_before_a_later_one_is_refused_are_found() {
+    let difference = first_difference(|given, answer, left| {
+        if let (Some((_, first)), Some(22)) = (asked_lines(given), answer.refusal()) {
+            let numbers = (0..).map_while(|offset| event_at(given.buffer, offset));
+            for (offset, number) in numbers.take_while(|number| *number >= -1).enumerate() {
+                left.kept.state.lines[first + offset] = Line {
+                    number,
+                    ..Line::default()
+                };
+            }
+        }
+        answer
+    });
+    assert!(difference.shortened().len() <= 3, "{}", difference.report());
+}
+
+/// As if an accepted call of these left the lines as they were.
+fn keeps_lines(given: &Given, answer: Answer, left: &mut Left, call: fn(&Call) -> bool) -> Answer {
+    if call(given.call) && answer == Answer::Done(0) {
+        left.kept.state.lines = given.kept.state.lines;
+    }
+    answer
+}
+
+#[test]
+fn lines_that_a_reset_keeps_are_found() {
+    let difference = first_difference(|given, answer, left| {
+        keeps_lines(given, answer, left, |call| *call == RESET)
+    });
+    assert!(difference.shortened().len() <= 4, "{}", difference.report());
+}
+
+#[test]
+fn lines_that_a_fresh_start_keeps_are_found() {
+    let difference = first_difference(|given, answer, left| {
+        keeps_lines(given, answer, left, |call| {
+            matches!(call, Call::FreshStart { .. })
+        })
     });
     assert!(difference.shortened().len() <= 4, "{}", difference.report());
 }

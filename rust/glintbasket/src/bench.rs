@@ -168,7 +168,7 @@ impl<'m> Bench<'m> {
     }
 
     /// Fresh start of the card with 64 feature bits: all marks 0, memory bytes and records untouched, no mapping, the container of
-    /// [`IommuType::Type1v2`], the device stopped and reset.
+    /// [`IommuType::Type1v2`], the device stopped and reset, its interrupt lines disabled.
     ///
     /// Refused: `BadBench`.
     pub fn power_on(&mut self) -> Result<()> {

@@ -34,17 +34,17 @@ refusals! {
     NoSuchRequest = 2,
     /// The buffer is shorter than the request's size.
     Short = 3,
-    /// `argsz` is below the request's size or above the buffer's length.
+    /// `argsz` is below the request's size, or that of its data, or above the buffer's length.
     ArgSize = 4,
     /// Flags are not allowed; or the container cannot become of an IOMMU type: there is none of that number, or a mapping is held.
     Flags = 5,
-    /// There is no such region, interrupt, queue or field. Place in a stream: the start of the part.
+    /// There is no such region, interrupt, line, queue or field. Place in a stream: the start of the part.
     Index = 6,
     /// An address or size is no multiple of 4,096.
     Unaligned = 7,
-    /// Size 0.
+    /// Size 0, or no interrupt line.
     Empty = 8,
-    /// Past 2^48, or past the end of memory.
+    /// Past 2^48, past the end of memory, or past the last line of an interrupt index.
     Range = 9,
     /// The range shares a device address with a held mapping.
     Overlap = 10,
@@ -70,7 +70,7 @@ refusals! {
     UnknownPart = 20,
     /// The stream has the part twice. Place: the start of the second.
     Twice = 21,
-    /// The value is not allowed. Place: the start of the part; 0 for a register.
+    /// The value is not allowed, or an event number is below -1. Place: the start of the part; 0 for a register or an event number.
     Value = 22,
     /// The value does not fit this device. Place: the start of the part; 0 for a register.
     Mismatch = 23,

@@ -77,6 +77,11 @@
 //! A container is of [`IommuType::Type1v2`] until the driver asks for [`IommuType::Type1`] by [`Bench::set_iommu`]. They differ in what
 //! [`Bench::unmap`] removes.
 //!
+//! # Interrupts
+//!
+//! The device has 25 interrupt lines. [`Bench::set_irqs`] gives them event numbers, triggers, masks and unmasks them, and
+//! [`Bench::show_line`] shows what each keeps: a driver's handler can be exercised.
+//!
 //! # What remains for the caller
 //!
 //! Every state, number, length and order of calls has an answer. Three things no call can test, and in safe Rust the types see to them:
@@ -105,6 +110,7 @@ mod card;
 mod check_save;
 mod error;
 mod iommu_type;
+mod irq;
 mod lent;
 mod parts;
 #[allow(unsafe_code)]
@@ -118,6 +124,7 @@ pub use card::Card;
 pub use check_save::{check_save, SaveCheck};
 pub use error::{Error, LookUpError, Refusal, Result};
 pub use iommu_type::IommuType;
+pub use irq::{IrqAction, IrqData, IrqIndex, Line};
 pub use parts::{Part, Parts, PART_HEADER};
 #[doc(inline)]
 pub use raw::{Mapping, Register, Registers, State};

@@ -25,6 +25,8 @@ pub mod number {
     pub const DEVICE_GET_REGION_INFO: u32 = 108;
     /// Device: one interrupt index.
     pub const DEVICE_GET_IRQ_INFO: u32 = 109;
+    /// Device: set up interrupt lines, and act on them.
+    pub const DEVICE_SET_IRQS: u32 = 110;
     /// Device: reset.
     pub const DEVICE_RESET: u32 = 111;
 }
@@ -203,7 +205,8 @@ impl Bench<'_> {
         })
     }
 
-    /// Resets the device's registers: status is 0, all others are unset. It runs or stays stopped as before.
+    /// Resets the device's registers: status is 0, all others are unset. All interrupt lines are disabled. It runs or stays stopped as
+    /// before.
     pub fn reset(&mut self) -> Result<()> {
         self.request(Target::DEVICE, number::DEVICE_RESET, &mut [])?;
         Ok(())

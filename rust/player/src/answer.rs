@@ -1,6 +1,6 @@
 //! What a call answered, and how it is printed.
 
-use glintbasket::{Error, Location, LookUpError, SaveCheck};
+use glintbasket::{Error, Line, Location, LookUpError, SaveCheck};
 use std::fmt;
 
 /// What a call answered.
@@ -10,6 +10,7 @@ pub enum Answer {
     /// Success of a call that writes to its buffer.
     Filled(u64, Vec<u8>),
     LookedUp(Result<Location, LookUpError>),
+    Shown(Line),
     Part {
         kind: u16,
         flags: u8,
@@ -42,6 +43,11 @@ impl fmt::Display for Answer {
                     None => Ok(()),
                 }
             }
+            Answer::Shown(line) => {
+                let (masked, pending) = (yes_or_no(line.masked), yes_or_no(line.pending));
+                write!(f, "ok number {} ", number(line))?;
+                write!(f, "masked {masked} pending {pending} tally {}", line.tally)
+            }
             Answer::Part {
                 kind,
                 flags,
@@ -65,6 +71,19 @@ impl fmt::Display for Answer {
                 )
             }
         }
+    }
+}
+
+/// A line's event number, -1 where it has none.
+fn number(line: &Line) -> i64 {
+    line.event.map_or(-1, i64::from)
+}
+
+fn yes_or_no(flag: bool) -> &'static str {
+    if flag {
+        "yes"
+    } else {
+        "no"
     }
 }
 
@@ -123,6 +142,20 @@ mod tests {
         let unmapped = refused(Refusal::Unmapped, Some(12));
         assert_eq!(unmapped, "refused 14 Unmapped at 0 probes 12");
         assert_eq!(refused(Refusal::Range, None), "refused 9 Range at 0");
+    }
+
+    #[test]
+    fn a_line_has_number_flags_and_tally() {
+        let line = Line {
+            event: Some(7),
+            masked: true,
+            pending: false,
+            tally: u32::MAX,
+        };
+        let text = "ok number 7 masked yes pending no tally 4294967295";
+        assert_eq!(Answer::Shown(line).to_string(), text);
+        let text = "ok number -1 masked no pending no tally 0";
+        assert_eq!(Answer::Shown(Line::DISABLED).to_string(), text);
     }
 
     #[test]

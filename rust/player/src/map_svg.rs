@@ -1,6 +1,6 @@
 //! The map of memory as a picture. What a colour tells, a hatching, a frame or a letter tells as well.
 
-use crate::map_text::{container_in_words, mapping_lines, refused_in_words};
+use crate::map_text::{container_in_words, irq_lines, mapping_lines, refused_in_words};
 use crate::pages::{range, row_around, stretches, Stretch, Written};
 use crate::play::RefusedByte;
 use glintbasket::{Bench, Rights, PAGE_SIZE};
@@ -42,7 +42,7 @@ text { font: 13px sans-serif; fill: #1a1a1a }
 </style>
 "##;
 
-/// The picture of pages, the container's type, mappings and the last refused byte.
+/// The picture of pages, the container's type, mappings, interrupt lines and the last refused byte.
 pub fn draw(title: &str, bench: &Bench, refused: Option<&RefusedByte>) -> String {
     let mut picture = Picture {
         body: String::new(),
@@ -52,6 +52,7 @@ pub fn draw(title: &str, bench: &Bench, refused: Option<&RefusedByte>) -> String
     picture.grid(bench, refused);
     picture.legend();
     picture.mappings(bench);
+    picture.irq_lines(bench);
     picture.refused(bench, refused);
     picture.finish(title)
 }
@@ -167,6 +168,16 @@ impl Picture {
         self.line("", MARGIN, &container);
         for (number, text) in mapping_lines(mappings) {
             self.line("", MARGIN, &format!("{number}  {text}"));
+        }
+        self.y += 2 * GAP;
+    }
+
+    fn irq_lines(&mut self, bench: &Bench) {
+        let lines = irq_lines(bench);
+        let head = format!("Interrupt lines set up: {}", lines.len());
+        self.line("head", MARGIN, &head);
+        for text in lines {
+            self.line("", MARGIN, &text);
         }
         self.y += 2 * GAP;
     }

@@ -2,15 +2,16 @@
 
 use crate::pages::{range, rights_in_words, row_around, runs, Stretch, Written, TOLD_MAX};
 use crate::play::RefusedByte;
-use glintbasket::{Bench, Mapping, PAGE_SIZE};
+use glintbasket::{Bench, IrqIndex, Line, Mapping, PAGE_SIZE};
 use std::io::{self, Write};
 
-/// Prints pages, the container's type, mappings and the last refused byte.
+/// Prints pages, the container's type, mappings, interrupt lines and the last refused byte.
 pub fn print(out: &mut impl Write, bench: &Bench, refused: Option<&RefusedByte>) -> io::Result<()> {
     print_pages(out, bench)?;
     writeln!(out)?;
     writeln!(out, "container: {}", container_in_words(bench))?;
     print_mappings(out, bench.mappings())?;
+    print_lines(out, bench)?;
     writeln!(out)?;
     print_refused(out, bench, refused)
 }
@@ -122,6 +123,44 @@ fn mapping_in_words(mapping: &Mapping) -> String {
     let memory = range(mapping.memory.0, mapping.size);
     let rights = rights_in_words(mapping.rights);
     format!("device {device} shows memory {memory}: {rights}")
+}
+
+/// A line of text for each interrupt line that is not as a fresh start leaves it.
+pub fn irq_lines(bench: &Bench) -> Vec<String> {
+    let mut told = Vec::new();
+    for index in IrqIndex::ALL {
+        for number in 0..index.lines() {
+            let line = bench.show_line(index, number);
+            let line = line.expect("a session's state is sound, and the index has the line");
+            if line != Line::DISABLED {
+                told.push(format!(
+                    "index {}, line {number}: {}",
+                    index.0,
+                    line_in_words(&line)
+                ));
+            }
+        }
+    }
+    told
+}
+
+fn line_in_words(line: &Line) -> String {
+    let number = match line.event {
+        Some(number) => format!("number {number}"),
+        None => "no number".to_string(),
+    };
+    let masked = if line.masked { ", masked" } else { "" };
+    let pending = if line.pending { ", pending" } else { "" };
+    format!("{number}, tally {}{masked}{pending}", line.tally)
+}
+
+fn print_lines(out: &mut impl Write, bench: &Bench) -> io::Result<()> {
+    let lines = irq_lines(bench);
+    if lines.is_empty() {
+        return writeln!(out, "interrupt lines: none set up");
+    }
+    writeln!(out, "interrupt lines: {} set up", lines.len())?;
+    lines.iter().try_for_each(|text| writeln!(out, "  {text}"))
 }
 
 fn print_refused(

@@ -3,8 +3,8 @@
 use crate::answer::Answer;
 use crate::session::{output_size, Call, Pattern, Session, Step};
 use glintbasket::{
-    check_save, marks_len, Bench, Card, DeviceAddress, Error, Mapping, MemoryAddress, Parts,
-    Refusal, Rights, Target,
+    check_save, marks_len, Bench, Card, DeviceAddress, Error, IrqIndex, Mapping, MemoryAddress,
+    Parts, Refusal, Rights, Target,
 };
 
 /// A bench's records and memory, each byte of which starts as the session's garbage says, and its marks.
@@ -140,6 +140,9 @@ impl<'m> Player<'m> {
                 buffer,
             } => self.request(*target, *number, buffer),
             Call::LookUp(device) => Ok(Answer::LookedUp(bench.look_up(*device))),
+            Call::ShowLine { index, line } => bench
+                .show_line(IrqIndex(unlisted(*index)), unlisted(*line))
+                .map(Answer::Shown),
             Call::CardRead(device, length) => {
                 let mut buffer = vec![self.garbage; *length];
                 bench.device_read(*device, &mut buffer)?;
@@ -233,7 +236,8 @@ impl<'m> Player<'m> {
     }
 }
 
-/// The library takes 32 bits. No greater number is listed, and neither is the one that stands for all of them here.
+/// The library takes 32 bits. No greater number is that of a request, an index or a line, and neither is the one that stands for all of
+/// them here.
 fn unlisted(number: u64) -> u32 {
     u32::try_from(number).unwrap_or(u32::MAX)
 }

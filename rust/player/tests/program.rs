@@ -102,6 +102,9 @@ save-parts 64
 stop
 load-parts -
 request device info room=20
+request device set-irqs flags=36 index=1 count=1 data 05000000
+show-line 1 0
+show-line 1 8
 request device reset
 power-on
 step 0 0301 00 00 0000000000000000 01000000 0f
@@ -132,11 +135,14 @@ const EVERY_OUTCOME_PLAYED: &str = "\
 20: refused 24 Missing at 0
 21: ok 0 : 10 00 00 00 03 00 00 00 09 00 00 00 04 00 00 00
 22: ok 0
-23: ok 0
-24: part 0x103 flags 0 selector 0 next 17 : 0f
-25: end
-26: refused 18 Truncated at 18
-27: refused 2 NoSuchRequest at 0
+23: ok number 5 masked no pending no tally 0
+24: refused 6 Index at 0
+25: ok 0
+26: ok 0
+27: part 0x103 flags 0 selector 0 next 17 : 0f
+28: end
+29: refused 18 Truncated at 18
+30: refused 2 NoSuchRequest at 0
 ";
 
 #[test]
@@ -296,6 +302,7 @@ container: Type1v2 (3)
 mappings: 2
    1  device 0x10000..0x11fff shows memory 0x1000..0x2fff: read
    2  device 0x20000..0x20fff shows memory 0x2000..0x2fff: read, write
+interrupt lines: none set up
 
 last refused byte: line 6, refused 16 Unwritten at 5: device address 0x10005, memory address 0x1005
   memory 0x1000 at the end: 68  65  6c  6c  6f [..] ..  ..  ..  ..  ..  ..  ..  ..  ..  ..   \
@@ -326,6 +333,35 @@ fn show_tells_the_type_of_an_older_container() {
 }
 
 #[test]
+fn show_lists_the_interrupt_lines_that_are_set_up() {
+    let session = file(
+        "lines.session",
+        "memory 0
+request device set-irqs flags=36 index=0 count=1 data 07000000 => ok 0
+request device set-irqs flags=36 index=2 start=14 count=2 data 00*4 05000000 => ok 0
+request device set-irqs flags=33 index=0 count=1 => ok 0
+request device set-irqs flags=33 index=0 count=1 => ok 0
+request device set-irqs flags=34 index=2 start=14 count=2 data 00 ff => ok 0
+",
+    );
+    let svg = path("lines.svg");
+    let output = run(&["show", "--svg", svg.to_str().unwrap(), &session]);
+    let shown = String::from_utf8(output.stdout).unwrap();
+    let lines = [
+        "index 0, line 0: number 7, tally 1, masked, pending",
+        "index 2, line 14: number 0, tally 0",
+        "index 2, line 15: number 5, tally 1",
+    ];
+    let listed = format!("interrupt lines: 3 set up\n  {}\n", lines.join("\n  "));
+    assert!(shown.contains(&listed), "{shown}");
+    let picture = fs::read_to_string(svg).unwrap();
+    assert!(picture.contains(">Interrupt lines set up: 3</text>"));
+    for line in lines {
+        assert!(picture.contains(&format!(">{line}</text>")), "{line}");
+    }
+}
+
+#[test]
 fn show_tells_a_byte_in_no_mapping() {
     let session = file("unmapped.session", "memory 0\ncard-read 5 1\n");
     let expected = "\
@@ -333,6 +369,7 @@ memory: 0 bytes, pages of 4096 bytes: 0
 
 container: Type1v2 (3)
 mappings: none
+interrupt lines: none set up
 
 last refused byte: line 2, refused 14 Unmapped at 0: device address 0x5, in no mapping
 ";

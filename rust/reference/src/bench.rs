@@ -1,6 +1,7 @@
 //! The bench: its limits, the mapping table, the kept state and when it is sound.
 
 use crate::answer::{refuse_if, Answer, Refusal};
+use crate::lines::{self, Lines};
 use crate::registers::{self, Registers, Words};
 
 pub const PAGE: u64 = 4_096;
@@ -169,6 +170,7 @@ pub struct State {
     /// The container's IOMMU type, by its number.
     pub iommu_type: u64,
     pub registers: Registers,
+    pub lines: Lines,
 }
 
 impl State {
@@ -187,6 +189,7 @@ impl State {
             words,
             iommu_type: TYPE1V2,
             registers: registers::reset(),
+            lines: lines::disabled(),
         }
     }
 
@@ -203,6 +206,7 @@ impl State {
             && self.mappings().iter().all(|m| m.sound(self.noted_length))
             && self.rising_and_apart()
             && is_iommu_type(self.iommu_type)
+            && lines::sound(&self.lines)
             && registers::sound(self.words, &self.registers)
     }
 
@@ -270,6 +274,7 @@ pub fn start(state: &mut State) -> Answer<u64> {
 #[cfg(test)]
 mod tests {
     use super::*;
+    use crate::lines::{show_line, Line};
     use crate::moves::{card_read, card_write, forget, host_load, host_store, look_up};
     use crate::parts::{load_parts, save_parts};
     use crate::registers::{read_register, set_register};
@@ -316,6 +321,8 @@ mod tests {
             request(&mut state, &memory, &marks, 0, 999, &mut []),
             request(&mut state, &memory, &marks, 0, 112, &mut []),
             request(&mut state, &memory, &marks, 1, 111, &mut []),
+            request(&mut state, &memory, &marks, 1, 110, buffer),
+            show_line(&state, 9, 9).map(|_| 0),
             look_up(&state, device).map(|_| 0).map_err(|e| e.refused),
             card_read(&state, &memory, &marks, device, buffer),
             card_write(&state, &mut memory, &mut marks, device, &[]),
@@ -380,6 +387,7 @@ mod tests {
         let mut state = unsound();
         state.running = true;
         state.iommu_type = TYPE1;
+        state.lines[1][3] = Line::stored(-2);
         let memory = vec![7; 100];
         let mut marks = vec![255; 13];
         assert_eq!(fresh_start(&mut state, 1, &memory, &mut marks), Ok(0));

@@ -9,6 +9,7 @@
 //! | [`bench`] | 1 |
 //! | [`answer`] | 2 |
 //! | [`requests`] | 3 |
+//! | [`lines`] | 3 and 4: interrupt lines |
 //! | [`moves`] | 4 |
 //! | [`registers`], [`parts`], [`check_save`] | 5 and 6 |
 //! | [`session`] | none: docs/session-format.md |
@@ -19,6 +20,7 @@ pub mod answer;
 pub mod bench;
 pub mod bytes;
 pub mod check_save;
+pub mod lines;
 pub mod moves;
 pub mod parts;
 pub mod registers;

@@ -6,6 +6,7 @@ use crate::bench::{
     TYPE1,
 };
 use crate::bytes::{number_at, put_number};
+use crate::lines::{self, set_lines, INDICES};
 use crate::registers;
 
 pub const CONTAINER: u64 = 0;
@@ -34,7 +35,7 @@ const fn listed_as(target: u64, number: u64, size: usize, argsz: bool, writes: b
 }
 
 #[rustfmt::skip]
-const LISTED: [Listed; 10] = [
+const LISTED: [Listed; 11] = [
     listed_as(CONTAINER, 100,  0, false, false),
     listed_as(CONTAINER, 101,  4, false, false),
     listed_as(CONTAINER, 102,  4, false, false),
@@ -44,6 +45,7 @@ const LISTED: [Listed; 10] = [
     listed_as(DEVICE,    107, 16, true,  true),
     listed_as(DEVICE,    108, 32, true,  true),
     listed_as(DEVICE,    109, 16, true,  true),
+    listed_as(DEVICE,    110, 20, true,  false),
     listed_as(DEVICE,    111,  0, false, false),
 ];
 
@@ -79,6 +81,7 @@ pub fn request(
         (DEVICE, 107) => device_info(buffer),
         (DEVICE, 108) => region_info(buffer),
         (DEVICE, 109) => interrupt_info(buffer),
+        (DEVICE, 110) => set_lines(state, buffer),
         (DEVICE, 111) => reset_device(state),
         _ => unreachable!("every listed request stands above"),
     }
@@ -246,21 +249,17 @@ fn region_info(buffer: &mut [u8]) -> Answer<u64> {
 }
 
 fn interrupt_info(buffer: &mut [u8]) -> Answer<u64> {
-    let (count, flags) = match number_at(buffer, 8, 4) {
-        0 => (1, 7),
-        1 => (8, 9),
-        2 => (16, 9),
-        3 => (0, 0),
-        _ => return Err(Refusal::Index.into()),
-    };
+    let index = INDICES.get(number_at(buffer, 8, 4) as usize);
+    let (count, flags) = *index.ok_or(Refusal::Index)?;
     put_number(buffer, 4, 4, flags);
     put_number(buffer, 12, 4, count);
     Ok(0)
 }
 
-/// Resets the registers; the running state, the table and marks stay.
+/// Resets the registers and disables all lines; the running state, the table and marks stay.
 fn reset_device(state: &mut State) -> Answer<u64> {
     state.registers = registers::reset();
+    state.lines = lines::disabled();
     Ok(0)
 }
 
@@ -325,7 +324,7 @@ mod tests {
     fn target_and_number_choose_the_request() {
         let mut state = pages(1);
         let on_container = [99, 103, 107, 108, 109, 110, 111, 115, 116, 0x1_0000_0066];
-        let on_device = [100, 101, 102, 106, 110, 112, 113, 114, 0x1_0000_006b];
+        let on_device = [100, 101, 102, 106, 112, 113, 114, 0x1_0000_006b];
         for number in on_container {
             let answer = ask(&mut state, CONTAINER, number, &mut buffer(64, &[]));
             assert_eq!(answer, refused(Refusal::NoSuchRequest), "{number}");

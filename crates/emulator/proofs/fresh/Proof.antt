@@ -10,11 +10,14 @@ use Rattle.registers.proofs.words_of.Reads as words-of-reads
 reset-requires : tie.Need-reset-requires
 reset-requires c κs = search needs
 
+disabled-requires : tie.Need-disabled-requires
+disabled-requires c κs = search needs
+
 words-of-requires : tie.Need-words-of-requires
 words-of-requires c κs = search needs
 
 returns : tie.Need-returns
-returns c = λ s. fresh-state _ _ _ _ s (c .words-of .ensures) (c .before .reset .ensures)
+returns c = λ s. fresh-state _ _ _ _ _ s (c .words-of .ensures) (c .before .before .reset .ensures) (c .before .disabled .ensures)
 
 pub fresh-spec : {M : Type 1} → statement M
-fresh-spec = tie.close (tie.spec reset-requires words-of-requires returns)
+fresh-spec = tie.close (tie.spec reset-requires disabled-requires words-of-requires returns)

@@ -1,5 +1,6 @@
 -- `registers::is_valid_queue` meets its contract.
-use Rattle.registers.proofs.Values.{both-and, queue-tested}
+use Rattle.answer.proofs.Tests.{both-and}
+use Rattle.registers.proofs.Values.{queue-tested}
 use borrow.Author.Needs.{needs}
 use Rattle.registers.proofs.is_valid_queue.Statement.{statement}
 use Rattle.registers.proofs.is_valid_queue.Tie as tie

@@ -1,8 +1,8 @@
 -- `registers::is_valid_size` meets its contract: it has the definition's own shape.
 use lib.Dec.{eqb}
 use Rattle.answer.specs.Tests.{_and_}
+use Rattle.answer.proofs.Tests.{both-and, either-or}
 use Rattle.registers.specs.Values.{powerOfTwo}
-use Rattle.registers.proofs.Values.{both-and, either-or}
 use Rattle.registers.proofs.is_valid_size.Statement.{statement}
 use Rattle.registers.proofs.is_valid_size.Tie as tie
 

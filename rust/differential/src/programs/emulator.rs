@@ -1,6 +1,6 @@
 //! One call on the emulator.
 
-use glintbasket::raw::{self, Found, Outcome, PartStep};
+use glintbasket::raw::{self, Found, Outcome, PartStep, ShownLine};
 use glintbasket::{DeviceAddress, Mapping, MemoryAddress, State};
 
 use crate::call::{Answer, Call};
@@ -21,6 +21,9 @@ pub fn emulate(
         }
         Call::LookUp { device } => {
             return found(&raw::look_up(state, records, DeviceAddress(device)))
+        }
+        Call::ShowLine { index, line } => {
+            return shown(&raw::show_line(state, records, index, line))
         }
         Call::CardRead { device } => {
             let device = DeviceAddress(device);
@@ -93,6 +96,22 @@ fn found(found: &Found) -> Answer {
             other
         }
     }
+}
+
+fn shown(shown: &ShownLine) -> Answer {
+    let (masked, pending) = (shown.masked, shown.pending);
+    let answer = told(shown.outcome);
+    if answer == Answer::Done(0) {
+        return Answer::Line {
+            number: shown.number.into(),
+            masked,
+            pending,
+            tally: shown.tally.into(),
+        };
+    }
+    assert_eq!((shown.number, shown.tally), (0, 0), "{shown:?}");
+    assert!(!masked && !pending, "{shown:?}");
+    answer
 }
 
 /// The step at a place, of which every field is judged: the second program knows kind, flags, selector and next.

@@ -3,7 +3,7 @@
 use glint_reference::answer::Refused;
 use glint_reference::bench::{self, DeviceAddress, MemoryAddress};
 use glint_reference::moves::{self, NotFound};
-use glint_reference::{parts, registers, requests};
+use glint_reference::{lines, parts, registers, requests};
 
 use crate::call::{Answer, Call};
 
@@ -37,6 +37,7 @@ fn with_all_records(
             requests::request(state, memory, marks, target, number, buffer)
         }
         Call::LookUp { device } => return look_up(state, DeviceAddress(device)),
+        Call::ShowLine { index, line } => return show_line(state, index.into(), line.into()),
         Call::CardRead { device } => {
             moves::card_read(state, memory, marks, DeviceAddress(device), buffer)
         }
@@ -74,6 +75,18 @@ fn refusal(refused: Refused) -> Answer {
     Answer::Refused {
         code: refused.refusal.number(),
         place: refused.place,
+    }
+}
+
+fn show_line(state: &bench::State, index: u64, line: u64) -> Answer {
+    match lines::show_line(state, index, line) {
+        Ok(line) => Answer::Line {
+            number: line.number,
+            masked: line.is_masked(),
+            pending: line.is_pending(),
+            tally: line.tally,
+        },
+        Err(refused) => refusal(refused),
     }
 }
 

@@ -32,7 +32,8 @@ mod structs;
 
 pub use check_save::{check_save, IS_SAVE};
 pub use structs::{
-    Found, Mapping, Outcome, PartStep, Register, Registers, State, REGISTERS, SLOTS,
+    Found, Line, Mapping, Outcome, PartStep, Register, Registers, ShownLine, State, LINES,
+    REGISTERS, SLOTS,
 };
 
 use crate::address::{DeviceAddress, MemoryAddress};
@@ -77,6 +78,13 @@ extern "C" {
         records_length: usize,
         device: DeviceAddress,
     ) -> Found;
+    fn glint_show_line(
+        state: *const State,
+        records: *const Mapping,
+        records_length: usize,
+        index: u32,
+        line: u32,
+    ) -> ShownLine;
     fn glint_device_read(
         state: *const State,
         records: *const Mapping,
@@ -234,6 +242,13 @@ pub fn request(
 pub fn look_up(state: &State, records: &[Mapping], device: DeviceAddress) -> Found {
     // SAFETY: the state and the slice are valid for their lengths.
     unsafe { glint_look_up(state, records.as_ptr(), records.len(), device) }
+}
+
+/// Shows an interrupt line: see [`Bench::show_line`](crate::Bench::show_line).
+#[inline]
+pub fn show_line(state: &State, records: &[Mapping], index: u32, line: u32) -> ShownLine {
+    // SAFETY: the state and the slice are valid for their lengths.
+    unsafe { glint_show_line(state, records.as_ptr(), records.len(), index, line) }
 }
 
 /// Card read: see [`Bench::device_read`](crate::Bench::device_read).

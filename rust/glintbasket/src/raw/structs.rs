@@ -60,6 +60,23 @@ pub struct Registers {
     pub slots: [Register; REGISTERS],
 }
 
+/// How many interrupt lines are kept.
+pub const LINES: usize = 25;
+
+/// An interrupt line that is kept.
+#[repr(C)]
+#[derive(Clone, Copy, Debug, Default, PartialEq, Eq)]
+pub struct Line {
+    /// The number of its event, or -1 for none. A number below makes the state unsound.
+    pub number: i32,
+    /// How many events it raised since its number was stored, modulo 2^32.
+    pub tally: u32,
+    /// 1 if it is masked. Every other value says that it is not.
+    pub masked: u8,
+    /// 1 if an event came while it was masked. Every other value says that none did.
+    pub pending: u8,
+}
+
 /// What is kept between calls.
 ///
 /// Any values may stand in it: a call refuses a state that is not sound with [`BadBench`](crate::Refusal::BadBench). The default is
@@ -80,6 +97,8 @@ pub struct State {
     pub words: u8,
     /// The number of the container's [`IommuType`](crate::IommuType), 1 or 3. Every other value makes the state unsound.
     pub iommu_type: u32,
+    /// The interrupt lines: that of index 0, the eight of 1, the sixteen of 2.
+    pub lines: [Line; LINES],
 }
 
 /// An answer: a result, or a refusal's number and place.
@@ -110,6 +129,22 @@ pub struct Found {
     pub left: u64,
     /// How many mappings the search looked at.
     pub probes: u64,
+}
+
+/// The answer of showing a line. Where it is refused, all else is 0.
+#[repr(C)]
+#[derive(Clone, Copy, Debug, PartialEq, Eq)]
+pub struct ShownLine {
+    /// The answer but for what the line keeps.
+    pub outcome: Outcome,
+    /// The number of its event, or -1 for none.
+    pub number: i32,
+    /// How many events it raised.
+    pub tally: u32,
+    /// Whether it is masked.
+    pub masked: bool,
+    /// Whether an event came while it was masked.
+    pub pending: bool,
 }
 
 /// A step's answer: a refusal; the end of the stream; or a part.
@@ -177,17 +212,27 @@ const _: () = {
     assert!(offset_of!(Mapping, rights) == 24);
     assert!(size_of::<Register>() == 33);
     assert!(size_of::<Registers>() == 462);
-    assert!(size_of::<State>() == 488);
+    assert!(size_of::<Line>() == 12);
+    assert!(offset_of!(Line, tally) == 4);
+    assert!(offset_of!(Line, masked) == 8);
+    assert!(offset_of!(Line, pending) == 9);
+    assert!(size_of::<State>() == 784);
     assert!(offset_of!(State, count) == 8);
     assert!(offset_of!(State, registers) == 16);
     assert!(offset_of!(State, running) == 478);
     assert!(offset_of!(State, words) == 479);
     assert!(offset_of!(State, iommu_type) == 480);
+    assert!(offset_of!(State, lines) == 484);
     assert!(size_of::<Outcome>() == 24);
     assert!(size_of::<Found>() == 56);
     assert!(offset_of!(Found, address) == 24);
     assert!(offset_of!(Found, rights) == 32);
     assert!(offset_of!(Found, left) == 40);
     assert!(offset_of!(Found, probes) == 48);
+    assert!(size_of::<ShownLine>() == 40);
+    assert!(offset_of!(ShownLine, number) == 24);
+    assert!(offset_of!(ShownLine, tally) == 28);
+    assert!(offset_of!(ShownLine, masked) == 32);
+    assert!(offset_of!(ShownLine, pending) == 33);
     assert!(size_of::<PartStep>() == 56);
 };

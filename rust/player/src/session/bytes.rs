@@ -26,6 +26,16 @@ impl Piece {
             Piece::Repeated(_, count) | Piece::Stale(count) => *count,
         }
     }
+
+    /// The first bytes, `limit` at most.
+    fn truncated(&self, limit: u64) -> Piece {
+        let count = self.count().min(limit);
+        match self {
+            Piece::Given(bytes) => Piece::Given(bytes[..count as usize].to_vec()),
+            Piece::Repeated(byte, _) => Piece::Repeated(*byte, count),
+            Piece::Stale(_) => Piece::Stale(count),
+        }
+    }
 }
 
 impl Pattern {
@@ -35,6 +45,28 @@ impl Pattern {
 
     pub fn push_stale(&mut self, count: usize) {
         self.pieces.push(Piece::Stale(count as u64));
+    }
+
+    /// How many bytes there are.
+    pub fn count(&self) -> usize {
+        self.pieces.iter().map(Piece::count).sum::<u64>() as usize
+    }
+
+    /// Puts another pattern behind this one.
+    pub fn append(&mut self, other: Pattern) {
+        self.pieces.extend(other.pieces);
+    }
+
+    /// The first bytes, as many as there may be.
+    pub fn truncated(&self, room: usize) -> Pattern {
+        let mut left = room as u64;
+        let mut pattern = Pattern::default();
+        for piece in &self.pieces {
+            let piece = piece.truncated(left);
+            left -= piece.count();
+            pattern.pieces.push(piece);
+        }
+        pattern
     }
 
     /// The bytes, of which each stale one is `garbage`.

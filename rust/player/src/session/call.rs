@@ -16,6 +16,10 @@ pub enum Call {
         buffer: Pattern,
     },
     LookUp(DeviceAddress),
+    ShowLine {
+        index: u64,
+        line: u64,
+    },
     CardRead(DeviceAddress, usize),
     CardWrite(DeviceAddress, Pattern),
     HostStore(MemoryAddress, Pattern),
@@ -40,10 +44,11 @@ pub enum Call {
 }
 
 /// The first words of calls, and their forms.
-const FORMS: [(&str, &str); 16] = [
+const FORMS: [(&str, &str); 17] = [
     ("power-on", "`power-on [card CARD]`"),
     ("request", "`request TARGET NUMBER BYTES`"),
     ("look-up", "`look-up DEVICE`"),
+    ("show-line", "`show-line INDEX LINE`"),
     ("card-read", "`card-read DEVICE LENGTH`"),
     ("card-write", "`card-write DEVICE BYTES`"),
     ("host-store", "`host-store MEMORY BYTES`"),
@@ -78,6 +83,14 @@ fn arguments(name: &str, words: &mut Words) -> Option<Call> {
         "power-on" => Some(Call::PowerOn(super::card(words).unwrap_or_default())),
         "request" => request::read(words),
         "look-up" => device(words).map(Call::LookUp),
+        "show-line" => {
+            let index = words.number(&Number::any("INDEX"));
+            let line = words.number(&Number::any("LINE"));
+            Some(Call::ShowLine {
+                index: index?,
+                line: line?,
+            })
+        }
         "card-read" => {
             let (device, length) = (device(words), length("LENGTH", words));
             Some(Call::CardRead(device?, length?))

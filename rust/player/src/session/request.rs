@@ -16,6 +16,8 @@ struct Listed {
     size: usize,
     /// Whether it gives output fields, so that its buffer is printed.
     output: bool,
+    /// Whether data may follow its fields.
+    data: bool,
     fields: &'static [Field],
 }
 
@@ -34,7 +36,7 @@ const fn field(name: &'static str, offset: usize, width: usize) -> Field {
     }
 }
 
-/// One without output fields.
+/// One without output fields and data.
 const fn listed(
     target: u64,
     name: &'static str,
@@ -48,6 +50,7 @@ const fn listed(
         number,
         size,
         output: false,
+        data: false,
         fields,
     }
 }
@@ -58,6 +61,10 @@ impl Listed {
             output: true,
             ..self
         }
+    }
+
+    const fn with_data(self) -> Listed {
+        Listed { data: true, ..self }
     }
 }
 
@@ -75,7 +82,15 @@ const MAP: &[Field] = &[
 ];
 const UNMAP: &[Field] = &[ARGSZ, FLAGS, field("device", 8, 8), field("size", 16, 8)];
 
-const LISTED: [Listed; 10] = [
+const SET_IRQS: &[Field] = &[
+    ARGSZ,
+    FLAGS,
+    INDEX,
+    field("start", 12, 4),
+    field("count", 16, 4),
+];
+
+const LISTED: [Listed; 11] = [
     listed(CONTAINER, "api-version", 100, 0, &[]),
     listed(CONTAINER, "check-extension", 101, 4, &[NUMBER]),
     listed(CONTAINER, "set-iommu", 102, 4, &[NUMBER]),
@@ -85,6 +100,7 @@ const LISTED: [Listed; 10] = [
     listed(DEVICE, "info", 107, 16, &[ARGSZ]).with_output(),
     listed(DEVICE, "region-info", 108, 32, &[ARGSZ, INDEX]).with_output(),
     listed(DEVICE, "irq-info", 109, 16, &[ARGSZ, INDEX]).with_output(),
+    listed(DEVICE, "set-irqs", 110, 20, SET_IRQS).with_data(),
     listed(DEVICE, "reset", 111, 0, &[]),
 ];
 
@@ -145,6 +161,10 @@ fn by_name(target: Option<u64>, word: &Word, words: &mut Words) -> Option<Call> 
     };
     let mut fields = Fields::new(listed);
     while let Some(word) = words.next() {
+        if listed.data && word.is("data") {
+            fields.data = super::bytes::read(words, super::bytes::Stale::Allowed);
+            break;
+        }
         if let Err((column, message)) = fields.set(&word) {
             words.fault(column, message);
         }
@@ -173,6 +193,7 @@ fn no_such_name(target: u64, name: &str) -> String {
 struct Fields {
     listed: &'static Listed,
     values: Vec<Option<u64>>,
+    data: Pattern,
     room: Option<u64>,
 }
 
@@ -181,6 +202,7 @@ impl Fields {
         Fields {
             listed,
             values: vec![None; listed.fields.len()],
+            data: Pattern::default(),
             room: None,
         }
     }
@@ -211,32 +233,43 @@ impl Fields {
         let mut names: Vec<&str> = self.listed.fields.iter().map(|f| f.name).collect();
         names.push("room");
         let names = names.join("=, ");
+        let data = if self.listed.data {
+            " and `data BYTES`"
+        } else {
+            ""
+        };
         format!(
-            "{} is no field of {}; it takes {names}=",
+            "{} is no field of {}; it takes {names}={data}",
             quoted(name),
             self.listed.name
         )
     }
 
-    /// The buffer: the fields, cut off where it ends, and all other bytes stale.
+    /// The request's size, with its data.
+    fn size(&self) -> usize {
+        self.listed.size + self.data.count()
+    }
+
+    /// The buffer: the fields and the data, cut off where it ends, and all other bytes stale.
     fn buffer(&self) -> Pattern {
-        let room = self.room.map_or(self.listed.size, |room| room as usize);
+        let room = self.room.map_or(self.size(), |room| room as usize);
         let mut pattern = Pattern::default();
         let mut end = 0;
         for (field, value) in self.listed.fields.iter().zip(&self.values) {
-            let start = field.offset.min(room);
-            pattern.push_stale(start - end);
-            end = (field.offset + field.width).min(room);
+            pattern.push_stale(field.offset - end);
+            end = field.offset + field.width;
             let value = value.unwrap_or(self.default(field)).to_le_bytes();
-            pattern.push_given(value[..end - start].to_vec());
+            pattern.push_given(value[..field.width].to_vec());
         }
-        pattern.push_stale(room - end);
-        pattern
+        pattern.push_stale(self.listed.size - end);
+        pattern.append(self.data.clone());
+        pattern.push_stale(room.saturating_sub(self.size()));
+        pattern.truncated(room)
     }
 
     fn default(&self, field: &Field) -> u64 {
         match field.name {
-            "argsz" => self.listed.size as u64,
+            "argsz" => self.size() as u64,
             _ => 0,
         }
     }

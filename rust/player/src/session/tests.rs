@@ -337,6 +337,35 @@ fn room_cuts_or_lengthens_a_buffer() {
 }
 
 #[test]
+fn data_stand_behind_the_fields() {
+    let buffer = |words: &str| request(&format!("device set-irqs {words}")).2;
+    let mut fields = vec![22, 0, 0, 0, 34, 0, 0, 0, 0, 0, 0, 0];
+    fields.extend([0, 0, 0, 0, 2, 0, 0, 0, 1, 0xee]);
+    assert_eq!(buffer("count=2 flags=34 data 01 ?*1"), fields);
+    assert_eq!(buffer("flags=34 room=21 count=2 data 01 ?*1"), fields[..21]);
+    assert_eq!(buffer("flags=34 room=3 count=2 data 01 ?*1"), fields[..3]);
+    let long = buffer("room=24 argsz=7 data 01*2");
+    assert_eq!((long[0], &long[20..]), (7, &[1, 1, 0xee, 0xee][..]));
+    assert_eq!(buffer("data -"), buffer(""));
+    assert_eq!(buffer("").len(), 20);
+}
+
+#[test]
+fn faulty_data_are_told() {
+    for (line, expected) in [
+        ("request device info data 00", vec![21, 26]),
+        ("request device set-irqs data", vec![29]),
+        ("request device set-irqs data 0g", vec![30]),
+        ("request device set-irqs data 00 count=1", vec![33]),
+        ("request device set-irqs size=1", vec![25]),
+        ("show-line 1", vec![12]),
+        ("show-line 1 0 0", vec![15]),
+    ] {
+        assert_eq!(columns(line), expected, "{line}");
+    }
+}
+
+#[test]
 fn faulty_fields_are_told() {
     let line = "request container map";
     for (words, expected) in [

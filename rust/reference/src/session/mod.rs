@@ -46,6 +46,10 @@ pub enum Call {
     LookUp {
         device: u64,
     },
+    ShowLine {
+        index: u64,
+        line: u64,
+    },
     CardRead {
         device: u64,
         length: usize,

@@ -7,6 +7,8 @@ pub struct Named {
     pub name: &'static str,
     pub number: u64,
     pub fields: &'static [Field],
+    /// Whether data may follow its fields.
+    pub data: bool,
 }
 
 pub struct Field {
@@ -29,6 +31,13 @@ const fn named(target: u64, name: &'static str, number: u64, fields: &'static [F
         name,
         number,
         fields,
+        data: false,
+    }
+}
+
+impl Named {
+    const fn with_data(self) -> Named {
+        Named { data: true, ..self }
     }
 }
 
@@ -37,7 +46,7 @@ const FLAGS: Field = field("flags", 4, 4);
 const INDEX: Field = field("index", 8, 4);
 const NUMBER: Field = field("number", 0, 4);
 
-pub const REQUESTS: [Named; 10] = [
+pub const REQUESTS: [Named; 11] = [
     named(CONTAINER, "api-version", 100, &[]),
     named(CONTAINER, "check-extension", 101, &[NUMBER]),
     named(CONTAINER, "set-iommu", 102, &[NUMBER]),
@@ -63,6 +72,19 @@ pub const REQUESTS: [Named; 10] = [
     named(DEVICE, "info", 107, &[ARGSZ]),
     named(DEVICE, "region-info", 108, &[ARGSZ, INDEX]),
     named(DEVICE, "irq-info", 109, &[ARGSZ, INDEX]),
+    named(
+        DEVICE,
+        "set-irqs",
+        110,
+        &[
+            ARGSZ,
+            FLAGS,
+            INDEX,
+            field("start", 12, 4),
+            field("count", 16, 4),
+        ],
+    )
+    .with_data(),
     named(DEVICE, "reset", 111, &[]),
 ];
 

@@ -8,6 +8,7 @@ use crate::bench::{
     fresh_start, mark_bytes, start, stop, DeviceAddress, Mapping, MemoryAddress, State,
 };
 use crate::check_save::{check_save, SaveCheck};
+use crate::lines::{show_line, Line};
 use crate::moves::{
     card_read, card_write, forget, host_load, host_store, look_up, Found, NotFound,
 };
@@ -66,6 +67,7 @@ impl Player {
                 buffer,
             } => self.request(*target, *number, buffer),
             Call::LookUp { device } => looked_up(look_up(&self.state, DeviceAddress(*device))),
+            Call::ShowLine { index, line } => line_shown(show_line(&self.state, *index, *line)),
             Call::CardRead { device, length } => {
                 let device = DeviceAddress(*device);
                 let mut buffer = self.buffer(*length);
@@ -161,6 +163,27 @@ fn looked_up(answer: Result<Found, NotFound>) -> String {
             probes,
         }) => format!("ok {address} rights {rights} left {left} probes {probes}"),
         Err(not_found) => not_found.to_string(),
+    }
+}
+
+fn line_shown(answer: Answer<Line>) -> String {
+    match answer {
+        Ok(line) => format!(
+            "ok number {} masked {} pending {} tally {}",
+            line.number,
+            yes_or_no(line.is_masked()),
+            yes_or_no(line.is_pending()),
+            line.tally
+        ),
+        Err(refused) => refused.to_string(),
+    }
+}
+
+fn yes_or_no(flag: bool) -> &'static str {
+    if flag {
+        "yes"
+    } else {
+        "no"
     }
 }
 

@@ -13,9 +13,9 @@ const BUFFER_LIMIT: u64 = 1 << 20;
 const MEMORY_LIMIT: u64 = 1 << 30;
 const DEFAULT_GARBAGE: u8 = 0xa5;
 
-const CALLS: &str = "power-on, request, look-up, card-read, card-write, host-store, host-load, \
-                     forget, set-register, read-register, load-parts, save-parts, stop, start, \
-                     step, check-save";
+const CALLS: &str = "power-on, request, look-up, show-line, card-read, card-write, host-store, \
+                     host-load, forget, set-register, read-register, load-parts, save-parts, \
+                     stop, start, step, check-save";
 
 /// Reads a file's bytes.
 pub fn read(file: &[u8]) -> Result<Session, Vec<Fault>> {
@@ -336,6 +336,10 @@ impl Arguments {
             "look-up" => Call::LookUp {
                 device: self.number("DEVICE"),
             },
+            "show-line" => Call::ShowLine {
+                index: self.number("INDEX"),
+                line: self.number("LINE"),
+            },
             "card-read" => Call::CardRead {
                 device: self.number("DEVICE"),
                 length: self.length("LENGTH"),
@@ -442,7 +446,12 @@ impl Arguments {
     fn fields(&mut self, named: &Named) -> Vec<Option<u8>> {
         let size = listed(named.target, named.number).map_or(0, |line| line.size);
         let mut given: Vec<(String, u64)> = Vec::new();
+        let mut data = Vec::new();
         while let Some(word) = self.next() {
+            if named.data && word.form == Form::Plain("data".to_string()) {
+                data = self.bytes_or_stale();
+                break;
+            }
             if let Some((name, number)) = self.field(named, &word) {
                 if given.iter().any(|(other, _)| *other == name) {
                     self.fault(word.column, format!("{name} is given twice"));
@@ -451,18 +460,20 @@ impl Arguments {
             }
         }
         let find = |name: &str| given.iter().find(|(other, _)| other == name);
-        let room = find("room").map_or(size, |(_, room)| *room as usize);
+        let whole = size + data.len();
+        let room = find("room").map_or(whole, |(_, room)| *room as usize);
         let mut buffer = vec![None; size];
         for field in named.fields {
             let default = if field.name == "argsz" {
-                size as u64
+                whole as u64
             } else {
                 0
             };
             let number = find(field.name).map_or(default, |(_, number)| *number);
             put_field(&mut buffer, field, number);
         }
-        buffer.resize(room, None); // fields are cut off where it ends
+        buffer.extend(data.into_iter().map(|(_, byte)| byte));
+        buffer.resize(room, None); // fields and data are cut off where it ends
         buffer
     }
 
@@ -473,7 +484,9 @@ impl Arguments {
             Form::Text(_) => None,
         };
         let Some((name, number)) = halves else {
-            self.fault(word.column, "FIELD=NUMBER is expected here");
+            let or_data = if named.data { ", or `data BYTES`," } else { "" };
+            let message = format!("FIELD=NUMBER{or_data} is expected here");
+            self.fault(word.column, message);
             return None;
         };
         let limit = match named.fields.iter().find(|field| field.name == name) {
@@ -704,6 +717,26 @@ mod tests {
     }
 
     #[test]
+    fn data_stand_behind_the_fields() {
+        let some = |bytes: &[u8]| bytes.iter().copied().map(Some).collect::<Vec<_>>();
+        let set = request_buffer("request device set-irqs count=2 flags=34 data 01 ?*1");
+        let mut expected = some(&[22, 0, 0, 0, 34, 0, 0, 0, 0, 0, 0, 0, 0, 0, 0, 0]);
+        expected.extend(some(&[2, 0, 0, 0, 1]));
+        expected.push(None);
+        assert_eq!(set, expected);
+        let cut = request_buffer("request device set-irqs flags=34 count=2 room=21 data 01 ?*1");
+        assert_eq!(cut, expected[..21]);
+        let long = request_buffer("request device set-irqs room=24 argsz=7 data 01");
+        assert_eq!(long[0], Some(7));
+        assert_eq!(long[20..], [Some(1), None, None, None]);
+        let none = request_buffer("request device set-irqs data -");
+        assert_eq!(none, request_buffer("request device set-irqs"));
+        assert_eq!(none.len(), 20);
+        let show = Call::ShowLine { index: 1, line: 7 };
+        assert_eq!(call("show-line 1 0x7"), show);
+    }
+
+    #[test]
     fn faults_of_requests_by_name() {
         let cases = [
             ("request card 107 -", 9),
@@ -716,6 +749,13 @@ mod tests {
             ("request container set-iommu argsz=4", 29),
             ("request device set-iommu number=1", 16),
             ("request device info room=1048577", 21),
+            ("request device info data", 21),
+            ("request device set-irqs data", 29),
+            ("request device set-irqs data 0g", 30),
+            ("request device set-irqs data 00 count=1", 33),
+            ("request device set-irqs size=1", 25),
+            ("show-line 1", 12),
+            ("show-line 1 0 0", 15),
             ("request device", 15),
             ("request", 8),
             ("set-register", 13),
