@@ -16,10 +16,10 @@
  *     // o.refused, o.code is GLINT_UNWRITTEN and o.place is 2: nobody wrote the third byte.
  *
  * What remains for the caller, because no call can test it:
- *   1. A pointer leads to as many bytes or records as its length says, which may be read or, where the parameter is not const, written;
- *      of records and states it is aligned as C asks. The functions of the first half take no null pointer, also where the length is 0;
- *      those of the second half take one for length 0, and refuse one with a length above 0 (GLINT_NULL_POINTER).
- *   2. Records, memory, marks, the buffer of one call and a struct that a pointer leads to do not overlap.
+ *   1. A pointer leads to as many bytes, records or numbers as its length says, which may be read or, where the parameter is not const,
+ *      written; of records, numbers and states it is aligned as C asks. The functions of the first half take no null pointer, also where
+ *      the length is 0; those of the second half take one for length 0, and refuse one with a length above 0 (GLINT_NULL_POINTER).
+ *   2. Records, memory, marks, the buffer or array of one call and a struct that a pointer leads to do not overlap.
  *   3. A bench, a state and what is lent with it are used by one thread at a time.
  * All else may be any: every byte of a state and of a record, every number, length and order of calls has an answer.
  */
@@ -49,6 +49,9 @@ extern "C" {
 #define GLINT_TRANSFER_LIMIT 65536u               /* bytes of one transfer, and of a stream */
 #define GLINT_PART_HEADER 16u                     /* bytes of a part before its value */
 #define GLINT_SAVED_MAX 445u                      /* bytes that saving ever writes: 41 to 429 for the card with 64 feature bits, 49 to 445 with 128 */
+#define GLINT_QUEUE_MAX 256u                      /* descriptors of a queue */
+#define GLINT_BUFFER_NUMBERS 3u                   /* numbers that a walk of a queue writes for each buffer: address, length, flags */
+#define GLINT_WALKED_MAX (GLINT_BUFFER_NUMBERS * GLINT_QUEUE_MAX * GLINT_QUEUE_MAX) /* numbers that a walk ever writes */
 
 /* Bytes that the marks of `length` bytes of memory take: eight marks to a byte. */
 #define GLINT_MARKS(length) ((length) / 8 + ((length) % 8 != 0))
@@ -69,14 +72,14 @@ enum glint_refusal {
     GLINT_INDEX = 6,           /* no such region, interrupt, line, queue or field; place in a stream: start of the part */
     GLINT_UNALIGNED = 7,       /* an address or size is no multiple of 4,096 */
     GLINT_EMPTY = 8,           /* size 0, or no interrupt line */
-    GLINT_RANGE = 9,           /* past 2^48, past the end of memory, or past the last line of an interrupt index */
+    GLINT_RANGE = 9,           /* past 2^48, the end of memory, or the last line of an index; place of a walk: where its read begins */
     GLINT_OVERLAP = 10,        /* shares a device address with a held mapping */
     GLINT_NO_ROOM = 11,        /* every lent record is in use */
     GLINT_CUTS = 12,           /* the range holds some but not all of a mapping; never with GLINT_TYPE1_IOMMU */
     GLINT_TOO_LONG = 13,       /* transfer or stream over 65,536 bytes */
-    GLINT_UNMAPPED = 14,       /* place: first faulty offset */
-    GLINT_NO_RIGHT = 15,       /* place: first faulty offset */
-    GLINT_UNWRITTEN = 16,      /* place: first faulty offset */
+    GLINT_UNMAPPED = 14,       /* place: first faulty offset; of a walk: device address of the faulty byte */
+    GLINT_NO_RIGHT = 15,       /* place: the same */
+    GLINT_UNWRITTEN = 16,      /* place: the same */
     GLINT_RUNNING = 17,        /* device not stopped */
     GLINT_TRUNCATED = 18,      /* place: start of the part */
     GLINT_HEADER = 19,         /* place: start of the part */
@@ -87,7 +90,12 @@ enum glint_refusal {
     GLINT_MISSING = 24,        /* no status part; place: length of the stream */
     GLINT_UNSET = 25,          /* the register is not set */
     GLINT_READ_ONLY = 26,      /* setting offered features */
-    GLINT_NO_SPACE = 27        /* output buffer too small */
+    GLINT_NO_SPACE = 27,       /* output buffer, or array for a walk, too small */
+    GLINT_QUEUE_NOT_READY = 28,   /* the queue is not set, or not enabled */
+    GLINT_RING_DISTANCE = 29,     /* the ring's index is further from the caller's last one than the queue has descriptors */
+    GLINT_DESCRIPTOR_INDEX = 30,  /* a head or a next names no descriptor of the queue; place: heads finished */
+    GLINT_CHAIN_LENGTH = 31,      /* a chain goes on behind as many descriptors as the queue has; place: heads finished */
+    GLINT_INDIRECT = 32           /* a descriptor is indirect; place: heads finished */
 };
 
 /* The name of a refusal, as "Unwritten" for GLINT_UNWRITTEN; "?" for a number that is none. Ask it only of what was refused. */
@@ -98,8 +106,9 @@ static inline const char *glint_refusal_name(uint32_t code)
         "Unaligned", "Empty", "Range", "Overlap", "NoRoom", "Cuts", "TooLong",
         "Unmapped", "NoRight", "Unwritten", "Running", "Truncated", "Header", "UnknownPart",
         "Twice", "Value", "Mismatch", "Missing", "Unset", "ReadOnly", "NoSpace",
+        "QueueNotReady", "RingDistance", "DescriptorIndex", "ChainLength", "Indirect",
     };
-    return code <= GLINT_NO_SPACE ? names[code] : "?";
+    return code <= GLINT_INDIRECT ? names[code] : "?";
 }
 
 /* ---- addresses */
@@ -211,6 +220,12 @@ typedef struct glint_shown_line {
     bool pending;
 } glint_shown_line;
 
+/* The answer of a walk of a queue: `outcome.result` is the number of buffers. */
+typedef struct glint_walked {
+    glint_outcome outcome;
+    uint16_t index; /* the ring's: what the next walk takes as the caller's last one */
+} glint_walked;
+
 /* One step over a stream: refused; or the end; or a part. */
 typedef struct glint_part_step {
     bool refused;
@@ -256,6 +271,8 @@ GLINT_ASSERT(offsetof(glint_shown_line, number) == 24);
 GLINT_ASSERT(offsetof(glint_shown_line, tally) == 28);
 GLINT_ASSERT(offsetof(glint_shown_line, masked) == 32);
 GLINT_ASSERT(offsetof(glint_shown_line, pending) == 33);
+GLINT_ASSERT(sizeof(glint_walked) == 32);
+GLINT_ASSERT(offsetof(glint_walked, index) == 24);
 GLINT_ASSERT(sizeof(glint_part_step) == 56);
 
 /* ---- the library's functions */
@@ -305,6 +322,17 @@ glint_outcome glint_device_read(const glint_state *state, const glint_mapping *r
 glint_outcome glint_device_write(const glint_state *state, const glint_mapping *records, size_t records_length, uint8_t *memory,
                                  size_t memory_length, uint8_t *marks, size_t marks_length, uint64_t device, const uint8_t *buffer,
                                  size_t buffer_length);
+
+/*
+ * Walks the driver's ring of a split virtqueue, 0 to 3, from the caller's last index up to but not including the ring's, and each head's
+ * chain of descriptors, all by card reads. Each buffer's address, length and flags go to `numbers`, one behind the other; the numbers
+ * behind them stay. Refused: 6, 28; by the first fault 29, 30, 31, 32, and 9, 14, 15, 16 of a card read; at last 27 if `numbers` is too
+ * short, and then, as with every refusal, none is written. The place of 30, 31 and 32 is how many heads are finished; that of 14, 15 and
+ * 16 is the device address of the faulty byte, and that of 9 where the read begins, at most 2^64 - 1.
+ */
+glint_walked glint_walk_queue(const glint_state *state, const glint_mapping *records, size_t records_length, const uint8_t *memory,
+                              size_t memory_length, const uint8_t *marks, size_t marks_length, uint32_t queue, uint16_t last,
+                              uint64_t *numbers, size_t numbers_length);
 
 /* Host store: stores `buffer` from the memory address on and marks those bytes. Refused: 13, 9. */
 glint_outcome glint_host_write(const glint_state *state, const glint_mapping *records, size_t records_length, uint8_t *memory,
@@ -465,8 +493,33 @@ GLINT_ASSERT(sizeof(glint_irq_set) == 20);
 #define GLINT_DRIVER_FEATURES 0x101u  /* as many */
 #define GLINT_COMMON_FIELD 0x102u     /* selectors 0, 8: 4 bytes; 16, 22: 2 bytes */
 #define GLINT_DEVICE_STATUS 0x103u    /* 1 byte */
-#define GLINT_QUEUE_CONFIG 0x104u     /* selectors 0 to 3: 32 bytes */
+#define GLINT_QUEUE_CONFIG 0x104u     /* selectors 0 to 3: 32 bytes, a glint_queue_config */
 #define GLINT_NOTIFY_CONFIG 0x105u    /* selectors 0 to 3: 8 bytes */
+
+/* The value of GLINT_QUEUE_CONFIG. */
+typedef struct glint_queue_config {
+    uint16_t size; /* how many descriptors: a power of two up to GLINT_QUEUE_MAX; 0 where the queue is unavailable, and not enabled */
+    uint16_t vector;
+    uint16_t enabled;                 /* 0 or 1 */
+    uint16_t reserved;                /* 0 */
+    glint_device_address descriptors; /* a multiple of 16 */
+    glint_device_address driver;      /* the driver's ring: a multiple of 2 */
+    glint_device_address device;      /* the device's: a multiple of 4 */
+} glint_queue_config;
+
+GLINT_ASSERT(sizeof(glint_queue_config) == 32);
+
+/* Flags of a descriptor, with virtio's numbers. */
+#define GLINT_DESCRIPTOR_NEXT 1u     /* the chain goes on */
+#define GLINT_DESCRIPTOR_WRITE 2u    /* the buffer is for the device to write */
+#define GLINT_DESCRIPTOR_INDIRECT 4u /* refused in a walk (32) */
+
+/* A buffer that a walk of a queue found, out of its three numbers. */
+typedef struct glint_buffer {
+    glint_device_address address;
+    uint32_t length;
+    uint16_t flags; /* GLINT_DESCRIPTOR_*, and whatever other bits the driver set */
+} glint_buffer;
 
 /* ==== a bench that keeps its state ==== */
 
@@ -507,6 +560,12 @@ static inline uint8_t *glint_bytes_mut(void *bytes)
 {
     static uint8_t none;
     return bytes ? (uint8_t *)bytes : &none;
+}
+
+static inline uint64_t *glint_numbers_mut(uint64_t *numbers)
+{
+    static uint64_t none;
+    return numbers ? numbers : &none;
 }
 
 static inline glint_mapping *glint_records(const glint_bench *bench)
@@ -781,6 +840,27 @@ static inline glint_outcome glint_bench_invalidate(glint_bench *bench, glint_mem
         return glint_null_refusal();
     return glint_invalidate(&bench->state, glint_records(bench), bench->records_length, glint_bytes(bench->memory),
                             bench->memory_length, glint_bytes_mut(bench->marks), bench->marks_length, address.value, length);
+}
+
+/* ---- queues */
+
+/* `length` counts numbers. GLINT_WALKED_MAX of them are enough for any walk, and three for each buffer are for this one. */
+static inline glint_walked glint_bench_walk_queue(const glint_bench *bench, uint32_t queue, uint16_t last, uint64_t *numbers, size_t length)
+{
+    if (glint_bench_is_null(bench) || glint_is_null(numbers, length)) {
+        glint_walked refused = {glint_null_refusal(), 0};
+        return refused;
+    }
+    return glint_walk_queue(&bench->state, glint_records(bench), bench->records_length, glint_bytes(bench->memory), bench->memory_length,
+                            glint_bytes(bench->marks), bench->marks_length, queue, last, glint_numbers_mut(numbers), length);
+}
+
+/* The buffer at a place among those that an accepted walk wrote to `numbers`, which is below the number that it gave. */
+static inline glint_buffer glint_walked_buffer(const uint64_t *numbers, size_t place)
+{
+    const uint64_t *three = numbers + GLINT_BUFFER_NUMBERS * place;
+    glint_buffer buffer = {{three[0]}, (uint32_t)three[1], (uint16_t)three[2]};
+    return buffer;
 }
 
 /* ---- registers and parts */

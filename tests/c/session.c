@@ -1059,7 +1059,12 @@ static void refusal_names(void)
     CHECK(strcmp(glint_refusal_name(GLINT_TWICE), "Twice") == 0);
     CHECK(strcmp(glint_refusal_name(GLINT_NO_SPACE), "NoSpace") == 0);
     CHECK(strcmp(glint_refusal_name(GLINT_NULL_POINTER), "NullPointer") == 0);
-    CHECK(strcmp(glint_refusal_name(28), "?") == 0);
+    CHECK(strcmp(glint_refusal_name(GLINT_QUEUE_NOT_READY), "QueueNotReady") == 0);
+    CHECK(strcmp(glint_refusal_name(GLINT_RING_DISTANCE), "RingDistance") == 0);
+    CHECK(strcmp(glint_refusal_name(GLINT_DESCRIPTOR_INDEX), "DescriptorIndex") == 0);
+    CHECK(strcmp(glint_refusal_name(GLINT_CHAIN_LENGTH), "ChainLength") == 0);
+    CHECK(strcmp(glint_refusal_name(GLINT_INDIRECT), "Indirect") == 0);
+    CHECK(strcmp(glint_refusal_name(33), "?") == 0);
 }
 
 // Whatever a test did, nothing around records, memory and marks was written.

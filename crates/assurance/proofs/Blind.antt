@@ -12,12 +12,12 @@ use lib.Dec.{eqb, leb, ltb}
 use borrow.Author.Tests.{leb-true}
 use Rattle.answer.specs.Tests.{_and_, _or_, pick}
 use Rattle.answer.specs.Checks.{_then_, firstFault}
-use Rattle.answer.specs.Answer.{settle}
+use Rattle.answer.specs.Answer.{Answer, settle, resultOr}
 use Rattle.answer.specs.declared.Verdict.{Verdict}
 use Rattle.answer.specs.declared.Verdict.the-variants.{Pass, Fail}
 use Rattle.answer.proofs.Tests.{and-true}
 use Rattle.answer.proofs.Checks.{never, then-pass, unless-pass, firstFault-all}
-use Rattle.address.specs.Address.{memoryAddress, deviceOffset, memoryOffset, inMemoryRange}
+use Rattle.address.specs.Address.{deviceAddress, memoryAddress, deviceOffset, memoryOffset, inMemoryRange}
 use Rattle.address.specs.declared.DeviceAddress.{DeviceAddress}
 use Rattle.address.specs.declared.MemoryAddress.{MemoryAddress}
 use Rattle.wire.specs.Field.{field, slice}
@@ -29,13 +29,14 @@ use Rattle.memory.specs.Shadow.{Shadow, initialized}
 use Rattle.memory.specs.Memory.{Memory, byteAt, bytesFrom}
 use Rattle.memory.specs.Transfers.{unwrittenAt, unwrittenIn, hostWriteChecks, hostReadChecks}
 use Rattle.dma.specs.Transfers.{readFault, transferChecks, deviceReadChecks, location, gather}
+use Rattle.virtqueue.specs.Ring.{Reader, placedFrom, cardRead, Walked, found, walk}
 use Rattle.interrupts.specs.Requests.{flagsOf, countOf, kindOf, width, dataStart, readsData}
 use Rattle.interrupts.specs.declared.Line.{Line}
 use Rattle.interrupts.proofs.Requests.{Agrees, checks-agree, lines-agree}
 use Rattle.emulator.specs.Machine.{Machine, Emulator, Given, memoryAlone, stateAlone, both, usable, lendable, asNoted, withLines}
 use Rattle.emulator.specs.Effect.{Effect, Outcome, effectOf, outcomeOf, leaving, writing}
 use Rattle.emulator.specs.Requests.{Request, getApiVersion, checkExtension, setIommu, getIommuInfo, mapDma, unmapDma, getInfo, getRegionInfo, getIrqInfo, setIrqs, resetDevice, Entry, requests, entryIn, identify, inFields, dataOf, inputOf, requestedType, requestedMapping, requestedStart, requestedSize, requestedIndex, argszChecks, listedChecks, sizeChecks, requestChecks, listedEffect, requestEffect}
-use Rattle.emulator.specs.Calls.{Call, powerOn, request, lookUp, deviceRead, deviceWrite, hostWrite, hostRead, invalidate, setRegister, readRegister, showLine, loadParts, saveParts, stop, start, given, input, ownChecks, checks, front, effect, probesOf, outcome}
+use Rattle.emulator.specs.Calls.{Call, powerOn, request, lookUp, deviceRead, deviceWrite, hostWrite, hostRead, invalidate, setRegister, readRegister, showLine, walkQueue, loadParts, saveParts, stop, start, given, input, queueValue, walkOf, ownChecks, checks, walking, effect, probesOf, outcome}
 use Rattle.assurance.specs.Overwrite.{overwrite, mask}
 use Rattle.assurance.specs.Runs.{written}
 use Rattle.assurance.proofs.Overwrite.{length-overwrite, length-mask, mask-all, getD-kept, part-kept, keeps, keeps-at, field-over, field-kept}
@@ -238,36 +239,13 @@ input-stable (invalidate a n) w buf = refl
 input-stable (setRegister kind selector) w buf = refl
 input-stable (readRegister kind selector) w buf = refl
 input-stable (showLine index i) w buf = refl
+input-stable (walkQueue queue last) w buf = refl
 input-stable loadParts w buf = refl
 input-stable saveParts w buf = refl
 input-stable stop w buf = refl
 input-stable start w buf = refl
 
--- ---- the checks of every call
-
-own-checks-blind : (c : Call) (buf : List ℕ) (e : Emulator) → ownChecks c (mask (input c buf) buf) (seen e) ≡ ownChecks c buf e
-unfolding ownChecks seen input
-own-checks-blind (powerOn card) buf e = refl
-own-checks-blind (request target number) buf e = request-blind buf e target number .its-checks
-own-checks-blind (lookUp d) buf e = refl
-own-checks-blind (deviceRead d) buf e = simp length-mask
-own-checks-blind (deviceWrite d) buf e = simp length-mask
-own-checks-blind (hostWrite a) buf e = simp length-mask
-own-checks-blind (hostRead a) buf e = simp length-mask
-own-checks-blind (invalidate a n) buf e = simp length-mask
-own-checks-blind (setRegister kind selector) buf e = simp mask-all
-own-checks-blind (readRegister kind selector) buf e = simp length-mask
-own-checks-blind (showLine index i) buf e = refl
-own-checks-blind loadParts buf e = simp mask-all
-own-checks-blind saveParts buf e = simp length-mask
-own-checks-blind stop buf e = refl
-own-checks-blind start buf e = refl
-
-checks-blind : (c : Call) (buf : List ℕ) (e : Emulator) → checks c (mask (input c buf) buf) (seen e) ≡ checks c buf e
-unfolding checks
-checks-blind c buf e = rw (usable-blind (given c) e, own-checks-blind c buf e)
-
--- ---- the effects of accepted calls
+-- ---- what accepted reads show
 
 pub unwritten-clear : (shadow : Shadow) (a : MemoryAddress) → unwrittenAt shadow a ≡ Pass → initialized shadow a ≡ true
 unfolding unwrittenAt
@@ -311,6 +289,49 @@ pub transfer-passed : (fault : Translation → Verdict) (ms : List Mapping) (d :
 unfolding transferChecks
 transfer-passed fault ms d n h = firstFault-all _ n (then-pass _ _ (then-pass _ _ h .1) .1)
 
+-- ---- a walk: what its card reads answer, and so what it comes to
+
+card-blind : (ms : List Mapping) (e : Emulator) → cardRead ms (seen e .memory) ≡ cardRead ms (e .memory)
+unfolding cardRead seen deviceReadChecks
+card-blind ms e = λ i from n. go from n (deviceReadChecks ms (e .memory .shadow) (deviceAddress from) n) refl i
+  where
+    go : (from n : ℕ) (v : Verdict) → deviceReadChecks ms (e .memory .shadow) (deviceAddress from) n ≡ v
+        → settle (placedFrom from v) (gather ms (seen e .memory) (deviceAddress from) n) ≡ settle (placedFrom from v) (gather ms (e .memory) (deviceAddress from) n)
+    go from n Pass ok = rw (gather-blind ms e n (deviceAddress from) (transfer-passed _ ms (deviceAddress from) n ok))
+    go from n (Fail code place) ok = unfold placedFrom settle in refl
+
+walk-blind : (e : Emulator) (queue last room : ℕ) → walkOf (seen e) queue last room ≡ walkOf e queue last room
+unfolding walkOf seen
+walk-blind e queue last room =
+    ap (λ (read : Reader). walk read queue (queueValue (e .machine .words) (e .machine .registers) queue) last room) (card-blind (e .machine .mappings) e)
+
+-- ---- the checks of every call
+
+own-checks-blind : (c : Call) (buf : List ℕ) (e : Emulator) → ownChecks c (mask (input c buf) buf) (seen e) ≡ ownChecks c buf e
+unfolding ownChecks seen input
+own-checks-blind (powerOn card) buf e = refl
+own-checks-blind (request target number) buf e = request-blind buf e target number .its-checks
+own-checks-blind (lookUp d) buf e = refl
+own-checks-blind (deviceRead d) buf e = simp length-mask
+own-checks-blind (deviceWrite d) buf e = simp length-mask
+own-checks-blind (hostWrite a) buf e = simp length-mask
+own-checks-blind (hostRead a) buf e = simp length-mask
+own-checks-blind (invalidate a n) buf e = simp length-mask
+own-checks-blind (setRegister kind selector) buf e = simp mask-all
+own-checks-blind (readRegister kind selector) buf e = simp length-mask
+own-checks-blind (showLine index i) buf e = refl
+own-checks-blind (walkQueue queue last) buf e = rw (length-mask (input (walkQueue queue last) buf) buf, walk-blind e queue last (length buf))
+own-checks-blind loadParts buf e = simp mask-all
+own-checks-blind saveParts buf e = simp length-mask
+own-checks-blind stop buf e = refl
+own-checks-blind start buf e = refl
+
+checks-blind : (c : Call) (buf : List ℕ) (e : Emulator) → checks c (mask (input c buf) buf) (seen e) ≡ checks c buf e
+unfolding checks
+checks-blind c buf e = rw (usable-blind (given c) e, own-checks-blind c buf e)
+
+-- ---- the effects of accepted calls
+
 effect-blind : (c : Call) (buf : List ℕ) (e : Emulator) → ownChecks c buf e ≡ Pass → effect c (mask (input c buf) buf) (seen e) ≡ effect c buf e
 unfolding effect ownChecks seen input deviceReadChecks bytesFrom written mask
 effect-blind (powerOn card) buf e ok = simp length-mask
@@ -327,6 +348,8 @@ effect-blind (invalidate a n) buf e ok = refl
 effect-blind (setRegister kind selector) buf e ok = simp mask-all
 effect-blind (readRegister kind selector) buf e ok = refl
 effect-blind (showLine index i) buf e ok = refl
+effect-blind (walkQueue queue last) buf e ok =
+    rw (length-mask (input (walkQueue queue last) buf) buf) (ap (λ (a : Answer Walked). walking (resultOr (found [] 0) a) (e .machine)) (walk-blind e queue last (length buf)))
 effect-blind loadParts buf e ok = simp mask-all
 effect-blind saveParts buf e ok = refl
 effect-blind stop buf e ok = refl

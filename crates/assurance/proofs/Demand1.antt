@@ -24,16 +24,19 @@ use Rattle.parts.specs.Load.{Seen, listedChecks as listedPartChecks, partChecks
 use Rattle.parts.specs.Save.{saveChecks}
 use Rattle.parts.specs.declared.Step.{Step}
 use Rattle.parts.specs.declared.Step.the-variants.{Part, End, Refused}
+use Rattle.virtqueue.specs.Ring.{Reader, placedFrom, cardRead, readied, openQueue, inTable, described, chain, headAt, taken, near, walked, fitting, walk}
+use Rattle.virtqueue.specs.declared.Queue.{Queue}
+use Rattle.virtqueue.specs.declared.Descriptor.{Descriptor}
 use Rattle.interrupts.specs.Requests.{setChecks as irqChecks, fieldChecks, dataChecks, showChecks}
 use Rattle.emulator.specs.Machine.{Emulator, emulatorOf}
 use Rattle.emulator.specs.Effect.{effectOf, outcomeOf, after, filled}
 use Rattle.emulator.specs.Requests.{Request, getApiVersion, checkExtension, setIommu, getIommuInfo, mapDma, unmapDma, getInfo, getRegionInfo, getIrqInfo, setIrqs, resetDevice, Entry, argszChecks, listedChecks, sizeChecks, requestChecks}
-use Rattle.emulator.specs.Calls.{Call, powerOn, request, lookUp, deviceRead, deviceWrite, hostWrite, hostRead, invalidate, setRegister, readRegister, showLine, loadParts, saveParts, stop, start, ownChecks, checks, effect, outcome}
+use Rattle.emulator.specs.Calls.{Call, powerOn, request, lookUp, deviceRead, deviceWrite, hostWrite, hostRead, invalidate, setRegister, readRegister, showLine, walkQueue, loadParts, saveParts, stop, start, walkOf, ownChecks, checks, effect, outcome}
 use Rattle.emulator.specs.Contract.{Meets, returned, leftRecords}
 use Rattle.emulator.specs.declared.State.{State}
 use Rattle.assurance.specs.Demand1.{Listed, stepVerdict, Unchanged, Demand1}
 use Rattle.assurance.proofs.Answers.{refused-fails}
-use Rattle.assurance.proofs.Listed.{at-listed, settle-listed, onward-listed, pick-either, listing}
+use Rattle.assurance.proofs.Listed.{at-listed, settle-listed, done-listed, onward-listed, pick-either, listing}
 
 -- ---- requests
 
@@ -115,10 +118,63 @@ load-listed : (w : ℕ) (running : Bool) (s : List ℕ) → Listed (verdict (loa
 unfolding load lengthCheck
 load-listed w running s = onward-listed _ _ (settle-listed _ _ (search listing)) (load-from-listed w _ s 0)
 
+-- ---- walks, over a reader that refuses by listed numbers
+
+placed-listed : (from : ℕ) (v : Verdict) → Listed v → Listed (placedFrom from v)
+unfolding placedFrom Listed
+placed-listed from Pass h = h
+placed-listed from (Fail code offset) h = h
+
+card-listed : (ms : List Mapping) (m : Memory) (from n : ℕ) → Listed (verdict (cardRead ms m from n))
+unfolding cardRead deviceReadChecks transferChecks lengthCheck
+card-listed ms m from n = settle-listed _ _ (placed-listed from _ (search (listing, read-fault-listed)))
+
+open-listed : (queue : ℕ) (v : Option (List ℕ)) → Listed (verdict (openQueue queue v))
+unfolding openQueue
+open-listed queue v = onward-listed _ _ (settle-listed _ _ (search listing)) ready
+  where
+    ready : (v : Option (List ℕ)) → Listed (verdict (readied v))
+    ready none = unfold readied in settle-listed _ _ (search listing)
+    ready (some x) = unfold readied in settle-listed _ _ (search listing)
+
+module _ (read : Reader) (reads : (from n : ℕ) → Listed (verdict (read from n))) where
+  module _ (q : Queue) where
+    in-table-listed : (heads d : ℕ) → Listed (verdict (inTable q heads d))
+    unfolding inTable
+    in-table-listed heads d = settle-listed _ _ (search listing)
+
+    described-listed : (heads d : ℕ) → Listed (verdict (described read q heads d))
+    unfolding described
+    described-listed heads d = onward-listed _ _ (reads _ 16) (λ b. settle-listed _ _ (search listing))
+
+    chain-listed : (heads more d : ℕ) → Listed (verdict (chain read q heads more d))
+    unfolding chain
+    chain-listed heads zero d = onward-listed _ _ (described-listed heads d) (λ x. settle-listed _ _ (search listing))
+    chain-listed heads (suc more) d =
+        onward-listed _ _ (described-listed heads d)
+        (λ x. pick-either (λ (a : Answer (List Descriptor)). Listed (verdict a)) _ _ _ (onward-listed _ _ (in-table-listed heads _) (λ e. onward-listed _ _ (chain-listed heads more e) (λ xs. done-listed _))) (done-listed _))
+
+    taken-listed : (n heads i : ℕ) → Listed (verdict (taken read q n heads i))
+    unfolding taken headAt
+    taken-listed zero heads i = done-listed _
+    taken-listed (suc n) heads i =
+        onward-listed _ _ (onward-listed _ _ (reads _ 2) (λ b. in-table-listed heads _))
+        (λ h. onward-listed _ _ (chain-listed heads _ h) (λ xs. onward-listed _ _ (taken-listed n _ _) (λ ys. done-listed _)))
+
+    walked-listed : (last : ℕ) → Listed (verdict (walked read q last))
+    unfolding walked near
+    walked-listed last =
+        onward-listed _ _ (reads _ 2)
+        (λ b. onward-listed _ _ (settle-listed _ _ (search listing)) (λ index. onward-listed _ _ (taken-listed _ 0 last) (λ xs. done-listed _)))
+
+  walk-listed : (queue : ℕ) (v : Option (List ℕ)) (last room : ℕ) → Listed (verdict (walk read queue v last room))
+  unfolding walk fitting
+  walk-listed queue v last room = onward-listed _ _ (open-listed queue v) (λ q. onward-listed _ _ (walked-listed q last) (λ w. settle-listed _ _ (search listing)))
+
 -- ---- every call
 
 own-checks-listed : (c : Call) (buf : List ℕ) (e : Emulator) → Listed (ownChecks c buf e)
-unfolding ownChecks translateChecks deviceReadChecks deviceWriteChecks transferChecks lengthCheck hostWriteChecks hostReadChecks unwrittenIn unwrittenAt invalidateChecks setChecks selectorChecks readChecks showChecks saveChecks
+unfolding ownChecks translateChecks deviceReadChecks deviceWriteChecks transferChecks lengthCheck hostWriteChecks hostReadChecks unwrittenIn unwrittenAt invalidateChecks setChecks selectorChecks readChecks showChecks saveChecks walkOf
 own-checks-listed (powerOn card) buf e = search listing
 own-checks-listed (request target number) buf e = request-listed _ buf e
 own-checks-listed (lookUp d) buf e = search listing
@@ -130,6 +186,7 @@ own-checks-listed (invalidate a n) buf e = search listing
 own-checks-listed (setRegister kind selector) buf e = search (listing, value-listed) depth 10
 own-checks-listed (readRegister kind selector) buf e = search listing depth 10
 own-checks-listed (showLine index i) buf e = search listing
+own-checks-listed (walkQueue queue last) buf e = walk-listed _ (card-listed (e .machine .mappings) (e .memory)) queue _ last _
 own-checks-listed loadParts buf e = load-listed _ _ buf
 own-checks-listed saveParts buf e = search listing
 own-checks-listed stop buf e = search listing

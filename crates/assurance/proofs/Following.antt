@@ -10,12 +10,12 @@ use lib.ListN.{length, getD, drop, length-drop}
 use lib.Seq.{sets, length-take-le, getD-take, getD-drop}
 use borrow.Author.Tests.{eqb-true}
 use Rattle.answer.specs.Tests.{_and_, pick}
-use Rattle.answer.specs.Answer.{Answer, done, refused, settle}
+use Rattle.answer.specs.Answer.{Answer, done, refused, settle, _onward_, verdict, resultOr}
 use Rattle.answer.specs.declared.Verdict.{Verdict}
 use Rattle.answer.specs.declared.Verdict.the-variants.{Pass, Fail}
 use Rattle.answer.proofs.Tests.{and-true}
 use Rattle.answer.proofs.Checks.{never, then-pass, when-pass, unless-pass}
-use Rattle.address.specs.Address.{memoryAddress, deviceOffset, memoryOffset}
+use Rattle.address.specs.Address.{deviceAddress, memoryAddress, deviceOffset, memoryOffset}
 use Rattle.address.specs.declared.DeviceAddress.{DeviceAddress}
 use Rattle.wire.specs.Field.{slice}
 use Rattle.wire.proofs.Laws.{sets-all}
@@ -30,16 +30,18 @@ use Rattle.memory.specs.Memory.{Memory, edited, byteAt, bytesFrom}
 use Rattle.memory.proofs.Marks.{initialized-below}
 use Rattle.dma.specs.Transfers.{readFault, writeFault, deviceReadChecks, deviceWriteChecks, location, gather}
 use Rattle.dma.proofs.Gather.{gather-length}
+use Rattle.virtqueue.specs.Ring.{placedFrom, cardRead, Walked, numbersOf}
+use Rattle.virtqueue.proofs.Laws.{never-done, walk-fits, walk-follows}
 use Rattle.registers.specs.declared.Card.{Card}
 use Rattle.emulator.specs.Machine.{Machine, Emulator, both, usable, lendable, sound, soundMappings, poweredOn, withMappings, withRegisters, withRunning, withIommuType, withLines}
 use Rattle.emulator.specs.Effect.{Result, value, Effect, Outcome, effectOf, outcomeOf, after, filled}
 use Rattle.emulator.specs.Requests.{Request, getApiVersion, checkExtension, setIommu, getIommuInfo, mapDma, unmapDma, getInfo, getRegionInfo, getIrqInfo, setIrqs, resetDevice, Entry, identify, requestedMapping, requestedStart, requestedSize, listedChecks, sizeChecks, requestChecks, listedEffect, requestEffect}
-use Rattle.emulator.specs.Calls.{Call, powerOn, request, lookUp, deviceRead, deviceWrite, hostWrite, hostRead, invalidate, setRegister, readRegister, showLine, loadParts, saveParts, stop, start, given, input, ownChecks, checks, effect, probesOf, outcome}
+use Rattle.emulator.specs.Calls.{Call, powerOn, request, lookUp, deviceRead, deviceWrite, hostWrite, hostRead, invalidate, setRegister, readRegister, showLine, walkQueue, loadParts, saveParts, stop, start, given, input, walkOf, ownChecks, checks, effect, probesOf, outcome}
 use Rattle.assurance.specs.Overwrite.{mask}
 use Rattle.assurance.specs.Runs.{Ask, Others, Event, written, disturbed, lentTo, event, turn, run}
-use Rattle.assurance.specs.Ledger.{Bytes, Ledger, empty, ledgerAfterRequest, ledgerAfterListed, ledgerAfter, inputBytes, fed, heldAt, FilledBy, Owed, OwedIf, Follows}
-use Rattle.assurance.proofs.Overwrite.{length-overwrite, overwrite-overwrite, length-mask, getD-kept}
-use Rattle.assurance.proofs.Blind.{seen, blind, read-clear, host-read-passed, transfer-passed}
+use Rattle.assurance.specs.Ledger.{Bytes, Ledger, empty, ledgerAfterRequest, ledgerAfterListed, ledgerAfter, inputBytes, fed, heldAt, FilledBy, orRefused, heldRead, Owed, OwedIf, Follows}
+use Rattle.assurance.proofs.Overwrite.{length-overwrite, overwrite-overwrite, length-mask, getD-kept, front-taken}
+use Rattle.assurance.proofs.Blind.{seen, blind, first, shift, read-clear, host-read-passed, transfer-passed}
 use Rattle.assurance.proofs.Agreement.{mask-over, mask-lent}
 use Rattle.assurance.proofs.Books.{Holds, stores-holds, scatter-holds, clears-holds, cleared-outside}
 
@@ -146,6 +148,7 @@ books-after (invalidate a n) l e buf h good ok =
 books-after (setRegister kind selector) l e buf h good ok = record { kind = h .kind; bytes = h .bytes; maps = h .maps; apart = h .apart }
 books-after (readRegister kind selector) l e buf h good ok = h
 books-after (showLine index i) l e buf h good ok = record { kind = h .kind; bytes = h .bytes; maps = h .maps; apart = h .apart }
+books-after (walkQueue queue last) l e buf h good ok = h
 books-after loadParts l e buf h good ok = record { kind = h .kind; bytes = h .bytes; maps = h .maps; apart = h .apart }
 books-after saveParts l e buf h good ok = h
 books-after stop l e buf h good ok = record { kind = h .kind; bytes = h .bytes; maps = h .maps; apart = h .apart }
@@ -167,12 +170,47 @@ unfolding heldAt location readFault
 read-held l m Nowhere h e = never _ _ e
 read-held l m (At a rights left) h e = h .bytes a (read-clear (m .shadow) (At a rights left) e)
 
+-- card reads and the ledger's: what the one accepts the other gives
+held-gather : (l : Ledger) (e : Emulator) → Books l e → (n : ℕ) (d : DeviceAddress) → let ms = e .machine .mappings in
+    ((i : ℕ) → i < n → readFault (e .memory .shadow) (translate ms (deviceOffset d i)) ≡ Pass) → heldRead l (d .0) n ≡ done (gather ms (e .memory) d n)
+unfolding heldRead gather orRefused _onward_
+held-gather l e h zero d ok = refl
+held-gather l e h (suc n) d ok =
+    let P : DeviceAddress → Type 0 = λ x. readFault (e .memory .shadow) (translate (e .machine .mappings) x) ≡ Pass in
+    rw (← translates l e h d, read-held l (e .memory) _ (h .bytes) (first P d n ok), held-gather l e h n (deviceOffset d 1) (shift P d n ok))
+
+card-held : (l : Ledger) (e : Emulator) → Books l e → (from n : ℕ) (bs : List ℕ) → cardRead (e .machine .mappings) (e .memory) from n ≡ done bs → heldRead l from n ≡ done bs
+unfolding cardRead placedFrom settle deviceReadChecks
+card-held l e h from n bs is = go (deviceReadChecks (e .machine .mappings) (e .memory .shadow) (deviceAddress from) n) refl is
+  where
+    go : (v : Verdict) → deviceReadChecks (e .machine .mappings) (e .memory .shadow) (deviceAddress from) n ≡ v
+        → settle (placedFrom from v) (gather (e .machine .mappings) (e .memory) (deviceAddress from) n) ≡ done bs → heldRead l from n ≡ done bs
+    go Pass ok k = held-gather l e h n (deviceAddress from) (transfer-passed _ (e .machine .mappings) (deviceAddress from) n ok) ∙ k
+    go (Fail code place) ok k = never-done k
+
+passed-done : {R : Type 0} (a : Answer R) → verdict a ≡ Pass → (x : R) × (a ≡ done x)
+unfolding verdict
+passed-done (done x) h = (x, refl)
+passed-done (refused code place) h = never code place h
+
+walk-owed : (queue last : ℕ) (l : Ledger) (e : Emulator) (buf lent : List ℕ) → length lent ≡ length buf → Books l e → (x : Walked) → walkOf e queue last (length buf) ≡ done x
+    → Owed l (walkQueue queue last) (length buf) (effect (walkQueue queue last) buf e .result) (filled (effect (walkQueue queue last) buf e .pieces) lent) (e .machine)
+unfolding Owed effect filled resultOr walkOf
+walk-owed queue last l e buf lent p h x is =
+    rw is
+    record {
+      finds = x;
+      rule = walk-follows _ (heldRead l) (card-held l e h) queue _ last (length buf) x is;
+      told = refl;
+      front = front-taken lent (numbersOf (x .buffers)) (omega (arith, walk-fits _ queue _ last (length buf) x is));
+    }
+
 filled-by : (held : ℕ → Option ℕ) (lent out : List ℕ) (n : ℕ) → length lent ≡ n → length out ≡ n
     → ((i : ℕ) → i < n → held i ≡ some (getD out i 0)) → FilledBy held n (sets lent 0 out)
 filled-by held lent out n e f h = rw (sets-all lent out (f ∙ sym e)) (record { whole = f; each = h })
 
 owed : (c : Call) (l : Ledger) (e : Emulator) (buf lent : List ℕ) → length lent ≡ length buf → Books l e → ownChecks c buf e ≡ Pass
-    → Owed l c (length buf) (filled (effect c buf e .pieces) lent)
+    → Owed l c (length buf) (effect c buf e .result) (filled (effect c buf e .pieces) lent) (effect c buf e .machine)
 unfolding Owed effect ownChecks filled deviceReadChecks bytesFrom byteAt
 owed (powerOn card) l e buf lent p h ok = tt
 owed (request target number) l e buf lent p h ok = tt
@@ -194,6 +232,7 @@ owed (invalidate a n) l e buf lent p h ok = tt
 owed (setRegister kind selector) l e buf lent p h ok = tt
 owed (readRegister kind selector) l e buf lent p h ok = tt
 owed (showLine index i) l e buf lent p h ok = tt
+owed (walkQueue queue last) l e buf lent p h ok = let r = passed-done _ ok in walk-owed queue last l e buf lent p h (r .0) (r .1)
 owed loadParts l e buf lent p h ok = tt
 owed saveParts l e buf lent p h ok = tt
 owed stop l e buf lent p h ok = tt
@@ -212,21 +251,21 @@ lent-outcome w q e =
 -- one call, by its verdict
 call-follows : (q : Ask) (l : Ledger) (e : Emulator) (lent : List ℕ) → length lent ≡ length (q .buffer) → Books l e
     → (v : Verdict) → checks (q .call) (inputBytes q) e ≡ v → (o : Outcome) → o ≡ outcomeOf v (effect (q .call) (inputBytes q) e) (e .machine) (probesOf (q .call) (e .machine .mappings))
-    → OwedIf (o .answer) l (q .call) (length (q .buffer)) (filled (o .effect .pieces) lent) × Books (fed (o .answer) q l) (after (o .effect) e)
+    → OwedIf (o .answer) l (q .call) (length (q .buffer)) (filled (o .effect .pieces) lent) (o .effect .machine) × Books (fed (o .answer) q l) (after (o .effect) e)
 unfolding checks outcomeOf effectOf settle OwedIf fed after edited inputBytes
 call-follows q l e lent p h Pass ok o is =
     let c : Call = q .call in
     let n : length (mask (input c (q .buffer)) (q .buffer)) ≡ length (q .buffer) = length-mask (input c (q .buffer)) (q .buffer) in
     let t = then-pass _ _ ok in
     rw is (
-      subst (λ (k : ℕ). Owed l c k (filled (effect c (mask (input c (q .buffer)) (q .buffer)) e .pieces) lent)) n (owed c l e (mask (input c (q .buffer)) (q .buffer)) lent (p ∙ sym n) h (t .1)),
+      subst (λ (k : ℕ). Owed l c k (effect c (mask (input c (q .buffer)) (q .buffer)) e .result) (filled (effect c (mask (input c (q .buffer)) (q .buffer)) e .pieces) lent) (effect c (mask (input c (q .buffer)) (q .buffer)) e .machine)) n (owed c l e (mask (input c (q .buffer)) (q .buffer)) lent (p ∙ sym n) h (t .1)),
       books-after c l e (mask (input c (q .buffer)) (q .buffer)) h (unless-pass _ _ (t .0)) (t .1),
     )
 call-follows q l e lent p h (Fail code place) ok o is = rw is (tt, h)
 
 turn-follows : (l : Ledger) (q : Ask) (w : Others) (e : Emulator) → Books l e
-    → OwedIf (turn w q e .outcome .answer) l (q .call) (length (q .buffer)) (turn w q e .buffer) × Books (fed (turn w q e .outcome .answer) q l) (turn w q e .left)
-unfolding turn event outcome lentTo
+    → OwedIf (turn w q e .outcome .answer) l (q .call) (length (q .buffer)) (turn w q e .buffer) (turn w q e .left .machine) × Books (fed (turn w q e .outcome .answer) q l) (turn w q e .left)
+unfolding turn event outcome outcomeOf lentTo after
 turn-follows l q w e h =
     call-follows q l (disturbed w (q .room) e) (lentTo w q) (length-overwrite _ _ (q .buffer)) (books-disturbed l w (q .room) e h) _ refl _ (lent-outcome w q (disturbed w (q .room) e))
 

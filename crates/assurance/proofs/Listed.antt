@@ -5,7 +5,7 @@ use mathlib.Core.Bool.{Bool, true, false}
 use lib.Dec.{leb}
 use borrow.Author.Tests.{leb-true}
 use Rattle.answer.specs.Tests.{pick}
-use Rattle.answer.specs.Codes.{BadBench, NoSpace}
+use Rattle.answer.specs.Codes.{BadBench, Indirect}
 use Rattle.answer.specs.Checks.{_then_, _when_, _unless_, _at_, firstFault}
 use Rattle.answer.specs.Answer.{Answer, done, refused, settle, _onward_, verdict}
 use Rattle.answer.specs.declared.Verdict.{Verdict}
@@ -17,7 +17,7 @@ unfolding Listed
 pass-listed = tt
 
 -- whether a number is listed is computed
-pub fail-listed : (code place : ℕ) → leb BadBench code ≡ true → leb code NoSpace ≡ true → Listed (Fail code place)
+pub fail-listed : (code place : ℕ) → leb BadBench code ≡ true → leb code Indirect ≡ true → Listed (Fail code place)
 unfolding Listed
 fail-listed code place low high = (leb-true _ _ low, leb-true _ _ high)
 
@@ -59,6 +59,10 @@ pub settle-listed : {R : Type 0} (v : Verdict) (r : R) → Listed v → Listed (
 unfolding settle verdict
 settle-listed Pass r h = h
 settle-listed (Fail code place) r h = h
+
+pub done-listed : {R : Type 0} (r : R) → Listed (verdict (done r))
+unfolding verdict
+done-listed r = pass-listed
 
 pub onward-listed : {A B : Type 0} (a : Answer A) (f : A → Answer B) → Listed (verdict a) → ((x : A) → Listed (verdict (f x))) → Listed (verdict (a onward f))
 unfolding _onward_ verdict

@@ -34,7 +34,7 @@ use Rattle.dma.specs.Transfers.{writeFault, deviceWriteChecks, location, scatte
 use Rattle.emulator.specs.Machine.{Machine, Emulator, machineOf, emulatorOf, both, usable, lendable, lendableRecords, poweredOn, asNoted, sound, soundMappings}
 use Rattle.emulator.specs.Effect.{effectOf, outcomeOf, after}
 use Rattle.emulator.specs.Requests.{Request, getApiVersion, checkExtension, setIommu, getIommuInfo, mapDma, unmapDma, getInfo, getRegionInfo, getIrqInfo, setIrqs, resetDevice, Entry, identify, requestEffect, listedEffect}
-use Rattle.emulator.specs.Calls.{Call, powerOn, request, lookUp, deviceRead, deviceWrite, hostWrite, hostRead, invalidate, setRegister, readRegister, showLine, loadParts, saveParts, stop, start, given, ownChecks, checks, effect, outcome}
+use Rattle.emulator.specs.Calls.{Call, powerOn, request, lookUp, deviceRead, deviceWrite, hostWrite, hostRead, invalidate, setRegister, readRegister, showLine, walkQueue, loadParts, saveParts, stop, start, given, ownChecks, checks, effect, outcome}
 use Rattle.assurance.specs.Packed.{withPacked, PastEnd}
 use Rattle.assurance.proofs.Blind.{first, shift, transfer-passed}
 
@@ -147,6 +147,7 @@ call-below (invalidate a n) buf e good ok = clears-below _ n a (invalidate-room 
 call-below (setRegister kind selector) buf e good ok = tt
 call-below (readRegister kind selector) buf e good ok = tt
 call-below (showLine index i) buf e good ok = tt
+call-below (walkQueue queue last) buf e good ok = tt
 call-below loadParts buf e good ok = tt
 call-below saveParts buf e good ok = tt
 call-below stop buf e good ok = tt

@@ -1,11 +1,9 @@
 -- What is saved is loaded: the round trip of parts, carried to the two calls.
-use Prim.Native.Nat.{ℕ, _≤_}
-use native.Mathlib.Omega.{arith}
+use Prim.Native.Nat.{ℕ}
 use mathlib.Core.Path.{_≡_, sym, _∙_, ap}
 use mathlib.Core.Bool.{true, false}
 use mathlib.Core.List.{List}
 use lib.ListN.{length, take}
-use lib.Seq.{sets, sets-eq, take-append-seam}
 use borrow.Author.Tests.{ltb-false}
 use Rattle.answer.specs.Checks.{_then_, _unless_}
 use Rattle.answer.specs.Answer.{done, settle, verdict, resultOr}
@@ -23,10 +21,8 @@ use Rattle.emulator.specs.Effect.{value, Outcome, carried, outcomeOf, effectOf,
 use Rattle.emulator.specs.Calls.{loadParts, saveParts, given, ownChecks, checks, effect, probesOf, outcome}
 use Rattle.emulator.specs.Contract.{writes, stateWith, returned}
 use Rattle.assurance.specs.SaveLoad.{SaveLoad}
+use Rattle.assurance.proofs.Overwrite.{front-taken}
 use Rattle.assurance.proofs.Answers.{accepted-passes}
-
-front-taken : (buf out : List ℕ) → length out ≤ length buf → take (length out) (sets buf 0 out) ≡ out
-front-taken buf out h = rw (sets-eq out buf 0 (omega arith)) (take-append-seam out _)
 
 -- an accepted save of `n` bytes: the registers are sound, and the buffer begins with their stream
 accepted : (e : Emulator) (buf : List ℕ) (n : ℕ) → outcome saveParts buf e .answer ≡ done (value n)

@@ -18,14 +18,15 @@ use Rattle.iommu.specs.Halving.{middleOf, probed, searched, halved, probesFor}
 use Rattle.iommu.specs.Requests.{setIommuChecks, mapChecks, unmapChecks, translateChecks}
 use Rattle.memory.specs.Shadow.{initialized, marked, shadowLength}
 use Rattle.bitmap.specs.Bits.{bit, withBit}
-use Rattle.memory.specs.Memory.{edit, edited, stores, clears}
+use Rattle.memory.specs.Memory.{edit, edited, stores, clears, byteAt as memoryByte}
 use Rattle.memory.specs.Transfers.{unwrittenAt, hostWriteChecks}
-use Rattle.dma.specs.Transfers.{readFault, transferChecks, deviceReadChecks}
+use Rattle.dma.specs.Transfers.{readFault, transferChecks, deviceReadChecks, location as placeOf, gather}
+use Rattle.virtqueue.specs.Ring.{capped, placedFrom, cardRead, queueOf, readied, openQueue, descriptorOf, goesOn, isIndirect, inTable, described, chain, nextIndex, distance, headAt, taken as takenHeads, near, walked as walkedBy, numbersOf, fitting, walk}
 use Rattle.registers.specs.Cards.{wordsOf, isCard}
 use Rattle.registers.specs.Rows.{kindOf, selectorOf, widthOf, sizeIn, sizeOf, rowFrom, rowOf, selects, listed, selectorWidth}
 use Rattle.registers.specs.Values.{offeredWord, offered, eachWord, within, powerOfTwo, validQueue, contentChecks, valueChecks}
 use Rattle.registers.specs.File.{current, withValue, reset, soundValue, soundValuesFrom, soundFile}
-use Rattle.registers.specs.Access.{selectorChecks, setChecks}
+use Rattle.registers.specs.Access.{selectorChecks, setChecks, setTo}
 use Rattle.parts.specs.Step.{valueSize, headerChecks, partAt, stepOn, partStep, stepAt, valueTo}
 use Rattle.parts.specs.Load.{flagsOf, listedChecks as listedPartChecks, partChecks, named, taken, finish, onStep, loadFrom, load}
 use Rattle.parts.specs.Save.{encoded, partOf, savedFrom, saved, saveChecks}
@@ -33,10 +34,10 @@ use Rattle.interrupts.specs.Lines.{indexAt, maskable, automasked, countBefore, 
 use Rattle.interrupts.specs.Requests.{oneOfThree, width, eventAt, byteAt, disables, fieldChecks, anyLower, dataChecks, setChecks as irqChecks, acted, selected, changedLine, changedRun, rangeStart, rangeCount, changedLines, showChecks, lineAt}
 use Rattle.interrupts.specs.declared.Line.{Line}
 use Rattle.emulator.specs.Machine.{lendableRecords, soundMappings, soundLength, soundCard, soundIommuType, soundInterrupts, soundRegisters, sound, lendable, asNoted, usable, poweredOn, withMappings, withRegisters, withIommuType, withLines}
-use Rattle.emulator.specs.Effect.{Result, value, location, line, effectOf, carried, outcomeOf, after, filled}
+use Rattle.emulator.specs.Effect.{Result, value, location, line, walked, effectOf, carried, outcomeOf, after, filled}
 use Rattle.emulator.specs.Requests.{entryIn, identify, regionAt, requestedType, requestedMapping, requestedStart, requestedSize, requestedIndex, argszChecks, listedChecks, sizeChecks, requestChecks, listedEffect, requestEffect}
-use Rattle.emulator.specs.Calls.{given, ownChecks, checks, located, effect, probesOf, outcome}
-use Rattle.assurance.specs.Starred.{lentRecords, Case, Right, AllRight, none, more, outcomeTo, behind, outcomeIn, mapAt, unmapBuffer, unmapAt, setIommuTo, setIrqsTo, twoMappings, statusPart, offeredPart, offeredPart128, regionSeven, cases, Starred}
+use Rattle.emulator.specs.Calls.{given, walkOf, ownChecks, checks, located, effect, probesOf, outcome}
+use Rattle.assurance.specs.Starred.{lentRecords, Case, Right, AllRight, none, more, outcomeTo, behind, outcomeIn, mapAt, unmapBuffer, unmapAt, setIommuTo, setIrqsTo, twoMappings, setQueue, describe, offers, twoHeads, longChain, statusPart, offeredPart, offeredPart128, regionSeven, cases, Starred}
 
 -- ---- the test, and that it tells
 
@@ -50,6 +51,13 @@ sameResult (line l) (value n) = false
 sameResult (line l) (location b s k) = false
 sameResult (value m) (line k) = false
 sameResult (location a r l) (line k) = false
+sameResult (walked m i) (walked n j) = eqb m n and eqb i j
+sameResult (walked m i) (value n) = false
+sameResult (walked m i) (location b s k) = false
+sameResult (walked m i) (line k) = false
+sameResult (value m) (walked n j) = false
+sameResult (location a r l) (walked n j) = false
+sameResult (line l) (walked n j) = false
 
 sameAnswer : Answer Result → Answer Result → Bool
 sameAnswer (done r) (done s) = sameResult r s
@@ -86,6 +94,13 @@ same-result (line l) (value n) h = absurd (false≢true h)
 same-result (line l) (location b s k) h = absurd (false≢true h)
 same-result (value m) (line k) h = absurd (false≢true h)
 same-result (location a r l) (line k) h = absurd (false≢true h)
+same-result (walked m i) (walked n j) h = ap₂ walked (eqb-true m n (and-true _ _ h .0)) (eqb-true i j (and-true _ _ h .1))
+same-result (walked m i) (value n) h = absurd (false≢true h)
+same-result (walked m i) (location b s k) h = absurd (false≢true h)
+same-result (walked m i) (line k) h = absurd (false≢true h)
+same-result (value m) (walked n j) h = absurd (false≢true h)
+same-result (location a r l) (walked n j) h = absurd (false≢true h)
+same-result (line l) (walked n j) h = absurd (false≢true h)
 
 same-answer : (a b : Answer Result) → sameAnswer a b ≡ true → a ≡ b
 unfolding sameAnswer
@@ -125,7 +140,7 @@ all-right (c ∷ cs) h = more (is-right c (and-true _ _ h .0)) (all-right cs (an
 -- ---- the test passes
 
 tested : allRight cases ≡ true
-unfolding sameResult sameAnswer sameBytes right allRight lentRecords outcomeTo behind outcomeIn mapAt unmapBuffer unmapAt setIommuTo setIrqsTo twoMappings statusPart offeredPart offeredPart128 regionSeven cases _and_ _or_ pick isSome lengthCheck _then_ _when_ _unless_ _at_ firstFault passes settle _onward_ verdict resultOr isIommuType aligned inDeviceRange inMemoryRange field bytesOf holds addressIn translate mapped validRights readable alignedMapping inRange soundMapping soundMappingsFrom soundTable touches inside beginsIn sticksOut anyOf overlaps cuts blocked removed insert without totalSize setIommuChecks mapChecks unmapChecks initialized marked bit withBit shadowLength edit edited stores clears unwrittenAt hostWriteChecks readFault transferChecks deviceReadChecks kindOf selectorOf widthOf sizeIn sizeOf rowFrom rowOf selects listed selectorWidth offeredWord offered eachWord within powerOfTwo validQueue contentChecks valueChecks current withValue reset soundValue soundValuesFrom soundFile selectorChecks setChecks valueSize headerChecks partAt stepOn partStep stepAt valueTo flagsOf listedPartChecks partChecks named taken finish onStep loadFrom load encoded partOf savedFrom saved saveChecks lendableRecords soundMappings soundLength wordsOf isCard soundCard soundIommuType soundRegisters sound lendable asNoted usable poweredOn withMappings withRegisters withIommuType effectOf outcomeOf after filled entryIn identify regionAt requestedType requestedMapping requestedStart requestedSize requestedIndex argszChecks listedChecks sizeChecks requestChecks listedEffect requestEffect given ownChecks checks effect outcome leftIn translateChecks located carried probesOf middleOf probed searched halved probesFor withLines soundInterrupts indexAt maskable automasked countBefore firstLine eventNumber assigned lower soundLines stored off withFlags raised triggered withMask unmasked disabledLines oneOfThree width eventAt byteAt disables fieldChecks anyLower dataChecks irqChecks acted selected changedLine changedRun rangeStart rangeCount changedLines showChecks lineAt
+unfolding sameResult sameAnswer sameBytes right allRight lentRecords outcomeTo behind outcomeIn mapAt unmapBuffer unmapAt setIommuTo setIrqsTo twoMappings statusPart offeredPart offeredPart128 regionSeven cases _and_ _or_ pick isSome lengthCheck _then_ _when_ _unless_ _at_ firstFault passes settle _onward_ verdict resultOr isIommuType aligned inDeviceRange inMemoryRange field bytesOf holds addressIn translate mapped validRights readable alignedMapping inRange soundMapping soundMappingsFrom soundTable touches inside beginsIn sticksOut anyOf overlaps cuts blocked removed insert without totalSize setIommuChecks mapChecks unmapChecks initialized marked bit withBit shadowLength edit edited stores clears unwrittenAt hostWriteChecks readFault transferChecks deviceReadChecks kindOf selectorOf widthOf sizeIn sizeOf rowFrom rowOf selects listed selectorWidth offeredWord offered eachWord within powerOfTwo validQueue contentChecks valueChecks current withValue reset soundValue soundValuesFrom soundFile selectorChecks setChecks valueSize headerChecks partAt stepOn partStep stepAt valueTo flagsOf listedPartChecks partChecks named taken finish onStep loadFrom load encoded partOf savedFrom saved saveChecks lendableRecords soundMappings soundLength wordsOf isCard soundCard soundIommuType soundRegisters sound lendable asNoted usable poweredOn withMappings withRegisters withIommuType effectOf outcomeOf after filled entryIn identify regionAt requestedType requestedMapping requestedStart requestedSize requestedIndex argszChecks listedChecks sizeChecks requestChecks listedEffect requestEffect given ownChecks checks effect outcome leftIn translateChecks located carried probesOf middleOf probed searched halved probesFor withLines soundInterrupts indexAt maskable automasked countBefore firstLine eventNumber assigned lower soundLines stored off withFlags raised triggered withMask unmasked disabledLines oneOfThree width eventAt byteAt disables fieldChecks anyLower dataChecks irqChecks acted selected changedLine changedRun rangeStart rangeCount changedLines showChecks lineAt setQueue describe offers twoHeads longChain capped placedFrom cardRead queueOf readied openQueue descriptorOf goesOn isIndirect inTable described chain nextIndex distance headAt takenHeads near walkedBy numbersOf fitting walk memoryByte placeOf gather walkOf setTo
 tested = refl
 
 pub starred : Starred

@@ -3,7 +3,7 @@
 use Prim.Native.Nat.{ℕ, _≤_}
 use mathlib.Core.Path.{_≡_}
 use mathlib.Core.List.{List, []}
-use Rattle.answer.specs.Codes.{BadBench, NoSpace}
+use Rattle.answer.specs.Codes.{BadBench, Indirect}
 use Rattle.answer.specs.Answer.{refused, verdict}
 use Rattle.answer.specs.declared.Verdict.{Verdict}
 use Rattle.answer.specs.declared.Verdict.the-variants.{Pass, Fail}
@@ -18,10 +18,10 @@ use Rattle.emulator.specs.Calls.{Call, outcome}
 use Rattle.emulator.specs.Contract.{Meets}
 use Rattle.emulator.specs.declared.State.{State}
 
--- no refusal, or one whose number is in the table of rule 2.4: 1 to 27
+-- no refusal, or one whose number is in the table of rule 2.4: 1 to 32
 unfoldable pub Listed : Verdict → Type 0
 Listed Pass = Unit
-Listed (Fail code place) = (BadBench ≤ code) × (code ≤ NoSpace)
+Listed (Fail code place) = (BadBench ≤ code) × (code ≤ Indirect)
 
 -- what a walker step refuses, if anything
 unfoldable pub stepVerdict : Step → Verdict

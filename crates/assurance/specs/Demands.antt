@@ -15,7 +15,7 @@ use Rattle.assurance.specs.Session.{Sessions}
 use Rattle.assurance.specs.Packed.{Equivalence, PastEnd}
 
 pub record Demands : Type 0 where
-  -- Demand 1. Whatever a call is given, it answers: success, or a refusal by one of 27 numbers, which changes nothing.
+  -- Demand 1. Whatever a call is given, it answers: success, or a refusal by one of 32 numbers, which changes nothing.
   pub demand1 : Demand1
   -- Demand 2. Each call does what its rule says: that is its contract, above. What is asked of calls together, and of worked values:
   -- the stream that is saved of a sound register file loads to the same file, on either card;
@@ -27,7 +27,7 @@ pub record Demands : Type 0 where
   -- by the rule of either IOMMU type, what an unmap leaves of a sound table is sound, and no size is lost.
   pub remains : Remains
   -- Demand 3. For every list of calls, whatever others write meanwhile to unwritten memory, stale records and stale bytes of buffers: emulators that
-  -- differ in nothing but those answer and write the same; and from a fresh start on, accepted reads give what the ledger holds;
+  -- differ in nothing but those answer and write the same; and from a fresh start on, accepted reads and walks give what the ledger holds;
   pub demand3 : Demand3
   -- and so do sessions of the code, in which each call meets its contract.
   pub sessions : Sessions

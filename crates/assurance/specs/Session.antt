@@ -72,11 +72,12 @@ AllAgree (q ∷ qs) w v [] ys = ⊥
 AllAgree (q ∷ qs) w v (x ∷ xs) [] = ⊥
 AllAgree (q ∷ qs) w v (x ∷ xs) (y ∷ ys) = Agree q (w 0) (v 0) x y × AllAgree qs (λ n. w (suc n)) (λ n. v (suc n)) xs ys
 
--- a session against the ledger, call by call: an accepted read shows the bytes that the ledger holds, and each accepted call is entered
+-- a session against the ledger, call by call: an accepted read shows the bytes that the ledger holds, an accepted walk what its rule finds by
+-- them, and each accepted call is entered
 unfoldable pub AllOwed : Ledger → List Ask → List Shown → Type 0
 AllOwed l [] xs = Unit
 AllOwed l (q ∷ qs) [] = ⊥
-AllOwed l (q ∷ qs) (x ∷ xs) = OwedIf (x .answer) l (q .call) (length (q .buffer)) (x .buffer) × AllOwed (fed (x .answer) q l) qs xs
+AllOwed l (q ∷ qs) (x ∷ xs) = OwedIf (x .answer) l (q .call) (length (q .buffer)) (x .buffer) (x .left .machine) × AllOwed (fed (x .answer) q l) qs xs
 
 -- Demand 3 of the code. For every list of calls, each with any arguments and any buffer, and whatever others write before each call:
 pub record Sessions : Type 0 where
@@ -86,6 +87,6 @@ pub record Sessions : Type 0 where
   -- the records that are not in use;
   pub agreement : (s t : State) (rs us : List Mapping) (m n : Memory) → Same (emulatorOf s rs m) (emulatorOf t us n) → (qs : List Ask) (w v : ℕ → Others) (xs ys : List Shown)
       → Session s rs m qs w xs → Session t us n qs v ys → AllAgree qs w v xs ys
-  -- in a session that begins with an accepted fresh start, and with a ledger empty then, every accepted read shows what the ledger holds.
+  -- in a session that begins with an accepted fresh start, and with a ledger empty then, every accepted read and walk shows what the ledger holds.
   pub ledger : (card : Card) (s : State) (rs : List Mapping) (m : Memory) (buf : List ℕ) (room : ℕ) (qs : List Ask) (w : ℕ → Others) (x : Shown) (xs : List Shown)
       → Session s rs m (record { call = powerOn card; buffer = buf; room = room } ∷ qs) w (x ∷ xs) → x .answer ≡ done (value 0) → AllOwed empty qs xs

@@ -1,11 +1,11 @@
--- The worked values of rules 7.1 to 7.12, 7.19 to 7.22 and 7.26 to 7.36, and some of rules 1.19, 3.24 and 4.14, as one table under one statement
--- (rule 8.5).
+-- The worked values of rules 7.1 to 7.12, 7.19 to 7.22 and 7.26 to 7.36, 7.48 to 7.51, and some of rules 1.19, 3.24, 4.14 and 4.15, as one table under one
+-- statement (rule 8.5).
 use Prim.Native.Nat.{ℕ, _+_, _-_, _/_, _^_}
 use mathlib.Core.Path.{_≡_}
 use mathlib.Core.Bool.{Bool}
 use mathlib.Core.List.{List, [], _∷_, _++_}
 use lib.ListN.{length, replicate}
-use Rattle.answer.specs.Codes.{BadBench, Flags, Index, Empty, Range, Overlap, NoRoom, Cuts, Unmapped, Unwritten, Twice, Value, Mismatch, Missing}
+use Rattle.answer.specs.Codes.{BadBench, Flags, Index, Empty, Range, Overlap, NoRoom, Cuts, Unmapped, Unwritten, Twice, Value, Mismatch, Missing, NoSpace, QueueNotReady, RingDistance, DescriptorIndex, ChainLength, Indirect}
 use Rattle.answer.specs.Answer.{Answer, done, refused}
 use Rattle.address.specs.Address.{page, deviceLimit, deviceAddress, memoryAddress}
 use Rattle.memory.specs.Shadow.{packed}
@@ -15,9 +15,9 @@ use Rattle.registers.specs.declared.Card.{Card}
 use Rattle.registers.specs.declared.Card.the-variants.{Features64, Features128}
 use Rattle.interrupts.specs.Lines.{off}
 use Rattle.emulator.specs.Machine.{Emulator, poweredOn}
-use Rattle.emulator.specs.Effect.{Result, value, location, line, Outcome, after, filled}
+use Rattle.emulator.specs.Effect.{Result, value, location, line, walked, Outcome, after, filled}
 use Rattle.emulator.specs.Requests.{container, device}
-use Rattle.emulator.specs.Calls.{Call, powerOn, request, lookUp, showLine, deviceRead, hostWrite, setRegister, loadParts, saveParts, stop, outcome}
+use Rattle.emulator.specs.Calls.{Call, powerOn, request, lookUp, showLine, walkQueue, deviceRead, hostWrite, setRegister, loadParts, saveParts, stop, outcome}
 use Rattle.assurance.specs.Runs.{Ask}
 
 -- an emulator that is lent so many records
@@ -99,6 +99,33 @@ setIrqsTo flags index start count bytes =
 unfoldable pub twoMappings : List Ask
 twoMappings = mapAt 0 8192 ∷ mapAt 8192 4096 ∷ []
 
+-- queue 1 of four descriptors from device address 0x10000 on, enabled or not, with the driver's ring from another one on
+unfoldable pub setQueue : ℕ → ℕ → Ask
+setQueue enabled driver = setRegister QueueConfig 1 lent bytesOf 2 4 ++ bytesOf 2 0 ++ bytesOf 2 enabled ++ bytesOf 2 0 ++ bytesOf 8 0x10000 ++ bytesOf 8 driver ++ bytesOf 8 0
+
+-- a descriptor: address, length, flags and next
+unfoldable pub describe : ℕ → ℕ → ℕ → ℕ → List ℕ
+describe a n flags next = bytesOf 8 a ++ bytesOf 4 n ++ bytesOf 2 flags ++ bytesOf 2 next
+
+-- A driver that sets up that queue at the start of memory: so much of its descriptors, and of its ring, at 0x10040, from the index on. Nobody
+-- writes the ring's flags.
+unfoldable pub offers : List ℕ → List ℕ → List Ask
+offers table ring = mapAt 0x10000 4096 ∷ setQueue 1 0x10040 ∷ (hostWrite (memoryAddress 0) lent table) ∷ (hostWrite (memoryAddress 66) lent ring) ∷ []
+
+-- two heads, 3 and then 0, at the ring's places 3 and 0, which the index 1 has last; the second is a chain of two
+unfoldable pub twoHeads : List Ask
+twoHeads =
+    offers (describe 0x5000 16 1 2 ++ describe 0 0 0 0 ++ describe 0x6000 32 2 9 ++ describe 0x7000 64 0xFF02 0)
+    (bytesOf 2 1 ++ bytesOf 2 0 ++ bytesOf 2 7 ++ bytesOf 2 7 ++ bytesOf 2 3)
+
+-- their three numbers each
+abbrev pub twoHeadsNumbers : List ℕ
+twoHeadsNumbers = 0x7000 ∷ 64 ∷ 0xFF02 ∷ 0x5000 ∷ 16 ∷ 1 ∷ 0x6000 ∷ 32 ∷ 2 ∷ []
+
+-- one head, and from it on a chain through all four descriptors, of which the last has these flags, and a next that there is not
+unfoldable pub longChain : ℕ → List Ask
+longChain flags = offers (describe 0 8 1 1 ++ describe 0 8 1 2 ++ describe 0 8 1 3 ++ describe 0 8 flags 4) (bytesOf 2 1 ++ bytesOf 2 0)
+
 unfoldable pub statusPart : List ℕ
 statusPart = 0x03 ∷ 0x01 ∷ 0x00 ∷ 0x00 ∷ replicate 8 0x00 ++ 0x01 ∷ 0x00 ∷ 0x00 ∷ 0x00 ∷ 0x00 ∷ []
 
@@ -127,6 +154,10 @@ gives n = done (value n)
 -- a case that leaves its buffer as it was
 abbrev pub answersOn : Card → List Ask → Ask → Answer Result → Case
 answersOn card before q a = record { card = card; before = before; ask = q; answer = a; probes = 0; leaves = q .buffer }
+
+-- a walk of queue 1 on a card from the caller's last index on, which leaves the array as another list
+abbrev pub walksOn : Card → List Ask → ℕ → List ℕ → Answer Result → List ℕ → Case
+walksOn card before last array a leaves = record { card = card; before = before; ask = walkQueue 1 last lent array; answer = a; probes = 0; leaves = leaves }
 
 -- one on the first card
 abbrev pub answers : List Ask → Ask → Answer Result → Case
@@ -226,6 +257,30 @@ cases =
     -- rule 4.14: no such line
     ∷ answers [] (showLine 3 0 lent []) (refused Index 0)
     ∷ answers [] (showLine 1 8 lent []) (refused Index 0)
+    -- rule 7.48: two heads between the last index 65,535 and the index 1, one of them a chain; what is behind their numbers stays. And none
+    ∷ walksOn Features64 twoHeads 65535 (stale 11) (done (walked 3 1)) (twoHeadsNumbers ++ stale 2)
+    ∷ walksOn Features128 twoHeads 65535 (stale 9) (done (walked 3 1)) twoHeadsNumbers
+    ∷ answers (offers [] (bytesOf 2 5)) (walkQueue 1 5 lent []) (done (walked 0 5))
+    -- four descriptors in a chain are not too many
+    ∷ walksOn Features64 (longChain 0) 0 (stale 12) (done (walked 4 1)) (0 ∷ 8 ∷ 1 ∷ 0 ∷ 8 ∷ 1 ∷ 0 ∷ 8 ∷ 1 ∷ 0 ∷ 8 ∷ 0 ∷ [])
+    -- rule 7.49: more heads than places, and as many, of which the first is none of four; a second one that is none, and a next;
+    ∷ answers (offers [] (bytesOf 2 5)) (walkQueue 1 0 lent []) (refused RingDistance 0)
+    ∷ answers (offers [] (bytesOf 2 4 ++ bytesOf 2 4)) (walkQueue 1 0 lent []) (refused DescriptorIndex 0)
+    ∷ answers (offers (describe 0 8 0 0) (bytesOf 2 2 ++ bytesOf 2 0 ++ bytesOf 2 4)) (walkQueue 1 0 lent []) (refused DescriptorIndex 1)
+    ∷ answers (offers (describe 0 8 1 4) (bytesOf 2 1 ++ bytesOf 2 0)) (walkQueue 1 0 lent []) (refused DescriptorIndex 0)
+    -- a chain that goes on behind its fourth descriptor, whatever the next is; and one whose fourth is indirect too
+    ∷ answers (longChain 1) (walkQueue 1 0 lent []) (refused ChainLength 0)
+    ∷ answers (longChain 5) (walkQueue 1 0 lent []) (refused Indirect 0)
+    -- rule 7.50: of a descriptor the next is not written, which nothing goes on with; no ring there; and one that begins at 2^64 − 2
+    ∷ answersOn Features128 (offers (bytesOf 8 0 ++ bytesOf 4 8 ++ bytesOf 2 0) (bytesOf 2 1 ++ bytesOf 2 0)) (walkQueue 1 0 lent stale 3) (refused Unwritten 0x1000E)
+    ∷ answers (setQueue 1 0x10040 ∷ []) (walkQueue 1 0 lent []) (refused Unmapped 0x10042)
+    ∷ answers (setQueue 1 (2 ^ 64 - 2) ∷ []) (walkQueue 1 0 lent []) (refused Range (2 ^ 64 - 1))
+    -- rule 7.51: room for eight numbers of nine
+    ∷ answers twoHeads (walkQueue 1 65535 lent stale 8) (refused NoSpace 0)
+    -- rule 4.15: no such queue; one whose register is not set, and one that is not enabled
+    ∷ answers (setQueue 1 0x10040 ∷ []) (walkQueue 4 0 lent []) (refused Index 0)
+    ∷ answers (setQueue 1 0x10040 ∷ []) (walkQueue 0 0 lent []) (refused QueueNotReady 0)
+    ∷ answers (setQueue 0 0x10040 ∷ []) (walkQueue 1 0 lent []) (refused QueueNotReady 0)
     ∷ []
 
 -- The statement: all of them are right. proofs/Starred.antt has its term.

@@ -4,14 +4,14 @@ use mathlib.Core.Path.{_≡_, refl}
 use mathlib.Core.Bool.{true}
 use mathlib.Core.List.{List, [], _∷_}
 use lib.ListN.{length}
-use mir.Syntax.{w32, w64}
+use mir.Syntax.{w16, w32, w64}
 use borrow.Fn.Kinds.{pNum, pBool}
 use borrow.Kind.ShrSlice.{pShrS}
 use borrow.Kind.MutSlice.{pMutS}
 use Rattle.walks.proofs.Plain.{Promise}
 use Rattle.walks.proofs.Structs.{Struct, shared, lent, by-value, returned}
 use Rattle.walks.proofs.Kept.{sharedOne, lentOne}
-use Rattle.walks.proofs.Lent.{bytes}
+use Rattle.walks.proofs.Lent.{bytes, numbers}
 use Rattle.address.specs.Address.{deviceAddress, memoryAddress}
 use Rattle.answer.specs.declared.Verdict.the-variants.{Pass}
 use Rattle.iommu.specs.Table.{tableOf}
@@ -25,7 +25,7 @@ use Rattle.vfio.specs.Entries.{entryAt}
 use Rattle.vfio.specs.Handlers.{setIommuIndex, mapIndex, unmapIndex, setIrqsIndex}
 use Rattle.emulator.specs.Calls.{powerOn, request, deviceRead, deviceWrite, hostWrite, hostRead, invalidate, setRegister, readRegister, loadParts, saveParts, stop, start}
 use Rattle.emulator.proofs.Contracts.{state}
-use Rattle.capi.specs.Contract.{Tells, TellsAlone, FindsAt, ShowsLine, IsNot, Fits, Handled, Judged}
+use Rattle.capi.specs.Contract.{Tells, TellsAlone, FindsAt, ShowsLine, WalksQueue, IsNot, Fits, Handled, Judged}
 use Rattle.capi.proofs.done_if.Kinds as done-if-kinds
 use Rattle.capi.proofs.done_if.Reads as done-if-reads
 use Rattle.capi.proofs.device_at.Kinds as device-at-kinds
@@ -116,12 +116,24 @@ use Rattle.registers.proofs.reset.Kinds as reset-kinds
 use Rattle.registers.proofs.reset.Reads as reset-reads
 use Rattle.interrupts.proofs.disabled.Kinds as disabled-kinds
 use Rattle.interrupts.proofs.disabled.Reads as disabled-reads
+use Rattle.capi.proofs.walk_answer.Kinds as walk-answer-kinds
+use Rattle.capi.proofs.walk_answer.Reads as walk-answer-reads
+use Rattle.capi.proofs.storing.Kinds as storing-kinds
+use Rattle.capi.proofs.storing.Reads as storing-reads
+use Rattle.capi.proofs.judging.Kinds as judging-kinds
+use Rattle.capi.proofs.judging.Reads as judging-reads
+use Rattle.emulator.proofs.begin_walk.Kinds as begin-walk-kinds
+use Rattle.emulator.proofs.begin_walk.Reads as begin-walk-reads
+use Rattle.emulator.proofs.queue_at.Kinds as queue-at-kinds
+use Rattle.emulator.proofs.queue_at.Reads as queue-at-reads
 use Rattle.capi.proofs.Outcome as outcome-type
 use Rattle.capi.proofs.Outcome.Laws as outcome-laws
 use Rattle.capi.proofs.Found as finding-type
 use Rattle.capi.proofs.Found.Laws as finding-laws
 use Rattle.capi.proofs.ShownLine as showing-type
 use Rattle.capi.proofs.ShownLine.Laws as showing-laws
+use Rattle.capi.proofs.Walked as walked-type
+use Rattle.capi.proofs.Walked.Laws as walked-laws
 use Rattle.capi.proofs.LoadReply as loading-type
 use Rattle.capi.proofs.LoadReply.Laws as loading-laws
 use Rattle.dma.proofs.Checked as checked-type
@@ -141,6 +153,9 @@ finding = record { type = finding-type.the-type; laws = finding-laws.the-laws; c
 
 abbrev pub showing : Struct
 showing = record { type = showing-type.the-type; laws = showing-laws.the-laws; copy = showing-laws.the-copy; plain = showing-laws.the-plain; one = refl }
+
+abbrev pub walked-struct : Struct
+walked-struct = record { type = walked-type.the-type; laws = walked-laws.the-laws; copy = walked-laws.the-copy; plain = walked-laws.the-plain; one = refl }
 
 abbrev pub loading : Struct
 loading = record { type = loading-type.the-type; laws = loading-laws.the-laws; copy = loading-laws.the-copy; plain = loading-laws.the-plain; one = refl }
@@ -200,6 +215,21 @@ reading = record { params = reading-kinds.ps; result = reading-kinds.r; asked = 
 
 abbrev pub writing : Promise 0
 writing = record { params = writing-kinds.ps; result = writing-kinds.r; asked = writing-reads.Asked; promised = writing-reads.Learnt }
+
+abbrev pub walk-answer : Promise 0
+walk-answer = record { params = walk-answer-kinds.ps; result = walk-answer-kinds.r; asked = walk-answer-reads.Asked; promised = walk-answer-reads.Learnt }
+
+abbrev pub storing : Promise 0
+storing = record { params = storing-kinds.ps; result = storing-kinds.r; asked = storing-reads.Asked; promised = storing-reads.Learnt }
+
+abbrev pub judging : Promise 0
+judging = record { params = judging-kinds.ps; result = judging-kinds.r; asked = judging-reads.Asked; promised = judging-reads.Learnt }
+
+abbrev pub begin-walk : Promise 0
+begin-walk = record { params = begin-walk-kinds.ps; result = begin-walk-kinds.r; asked = begin-walk-reads.Asked; promised = begin-walk-reads.Learnt }
+
+abbrev pub queue-at : Promise 0
+queue-at = record { params = queue-at-kinds.ps; result = queue-at-kinds.r; asked = queue-at-reads.Asked; promised = queue-at-reads.Learnt }
 
 abbrev pub host-write : Promise 3
 host-write = record { params = host-write-kinds.ps; result = host-write-kinds.r; asked = host-write-reads.Asked; promised = host-write-reads.Learnt }
@@ -379,6 +409,14 @@ check-transfer = record {
   result = returned checked;
   asked = λ κs a. ((a .0) ≡ true → (Ready (tableOf (a .1 .1 .0 .now) (a .1 .0)) (length (a .1 .1 .1 .0 .now))) × (length (a .1 .1 .1 .0 .now) ≤ 8 * length (a .1 .1 .1 .1 .0 .now)));
   promised = λ κs a r e. ((a .0) ≡ true → Judged (a .1 .1 .1 .1 .1 .1 .1 .0) (a .1 .1 .0 .now) (a .1 .0) (memoryOf (a .1 .1 .1 .0 .now) (a .1 .1 .1 .1 .0 .now)) (a .1 .1 .1 .1 .1 .0) (a .1 .1 .1 .1 .1 .1 .0) r);
+}
+
+abbrev pub glint-walk-queue : Promise 5
+glint-walk-queue = record {
+  params = sharedOne state 0 tt ∷ shared mapping 1 tt ∷ pShrS bytes 2 tt ∷ pShrS bytes 3 tt ∷ pNum w32 ∷ pNum w16 ∷ pMutS numbers 4 tt ∷ [];
+  result = returned walked-struct;
+  asked = λ κs a. Unit {0};
+  promised = λ κs a r e. WalksQueue (a .1 .1 .1 .1 .0) (a .1 .1 .1 .1 .1 .0) (a .1 .1 .1 .1 .1 .1 .0 .now) (a .0 .now) (a .1 .0 .now) (memoryOf (a .1 .1 .0 .now) (a .1 .1 .1 .0 .now)) r (e .1 .1 .1 .1 .1 .1 .0 .now);
 }
 
 abbrev pub glint-device-read : Promise 5

@@ -1,3 +1,4 @@
 mod Answers
 pub mod Calls
 pub mod Contracts
+mod Walking

@@ -17,18 +17,19 @@ use Rattle.wire.specs.Field.{slice}
 use Rattle.emulator.specs.Machine.{machineOf, emulatorOf, sound}
 use Rattle.emulator.specs.Requests.{sizeChecks}
 use Rattle.emulator.specs.Effect.{Result}
-use Rattle.emulator.specs.Calls.{Call, lookUp, showLine, outcome}
+use Rattle.emulator.specs.Calls.{Call, lookUp, showLine, walkQueue, outcome}
 use Rattle.emulator.specs.Contract.{Meets}
 use Rattle.emulator.specs.declared.State.{State}
 use Rattle.parts.specs.Step.{stepAt, valueAt}
 use Rattle.vfio.specs.Entries.{entryOf, entryAt}
 use Rattle.vfio.specs.Handlers.{Answered, Replies}
 use Rattle.vfio.specs.declared.Admission.{Admission}
-use Rattle.capi.specs.Structs.{answerStruct, foundStruct, lineStruct, stepStruct}
+use Rattle.capi.specs.Structs.{answerStruct, foundStruct, lineStruct, walkedStruct, stepStruct}
 use Rattle.capi.specs.declared.Found.{Found}
 use Rattle.capi.specs.declared.Outcome.{Outcome}
 use Rattle.capi.specs.declared.PartStep.{PartStep}
 use Rattle.capi.specs.declared.ShownLine.{ShownLine}
+use Rattle.capi.specs.declared.Walked.{Walked}
 
 -- The struct `r` is the one that `shape` makes of the outcome's answer, and all else is left as the outcome says.
 pub record Returns {A : Type 0} (shape : Answer Result → A) (c : Call) (buf : List ℕ) (s : State) (rs : List Mapping) (m : Memory) (r : A) (buf′ : List ℕ) (m′ : Memory) (s′ : State)
@@ -51,6 +52,10 @@ FindsAt d s rs r = (m : Memory) → Returns (λ a. foundStruct a (outcome (lookU
 -- showing a line, likewise
 abbrev pub ShowsLine : ℕ → ℕ → State → List Mapping → ShownLine → Type 0
 ShowsLine index i s rs r = (m : Memory) → Returns lineStruct (showLine index i) [] s rs m r [] m s rs
+
+-- the walk of a queue, likewise; its buffer is the array of numbers
+abbrev pub WalksQueue : ℕ → ℕ → List ℕ → State → List Mapping → Memory → Walked → List ℕ → Type 0
+WalksQueue queue last ns s rs m r ns′ = Returns walkedStruct (walkQueue queue last) ns s rs m r ns′ m s rs
 
 -- an admitted request that maps nothing, in numbers
 pub record Replied (a : Admission) (buf : List ℕ) (r : Outcome) (buf′ : List ℕ) : Type 0 where

@@ -5,7 +5,7 @@ use Rattle.answer.specs.Tests.{flagged}
 use Rattle.answer.specs.Codes.{BadBench}
 use Rattle.answer.specs.Answer.{Answer, done, refused}
 use Rattle.address.specs.Address.{memoryAddress}
-use Rattle.emulator.specs.Effect.{Result, value, location, line}
+use Rattle.emulator.specs.Effect.{Result, value, location, line, walked}
 use Rattle.emulator.specs.Contract.{withRegistersIn}
 use Rattle.emulator.specs.declared.State.{State}
 use Rattle.parts.specs.Step.{headerSize}
@@ -17,6 +17,7 @@ use Rattle.capi.specs.declared.Found.{Found}
 use Rattle.capi.specs.declared.LoadReply.{LoadReply}
 use Rattle.capi.specs.declared.PartStep.{PartStep}
 use Rattle.capi.specs.declared.ShownLine.{ShownLine}
+use Rattle.capi.specs.declared.Walked.{Walked}
 
 abbrev pub success : ℕ → Outcome
 success n = record { refused = false; code = 0; place = 0; result = n }
@@ -24,11 +25,12 @@ success n = record { refused = false; code = 0; place = 0; result = n }
 abbrev pub refusal : ℕ → ℕ → Outcome
 refusal code place = record { refused = true; code = code; place = place; result = 0 }
 
--- the answer of a call; look-up's has its values beside it
+-- the answer of a call; those of look-up, of a line that is shown and of a walk have their values beside it
 abbrev pub answerStruct : Answer Result → Outcome
 answerStruct (done (value n)) = success n
 answerStruct (done (location a rights left)) = success 0
 answerStruct (done (line l)) = success 0
+answerStruct (done (walked n index)) = success n
 answerStruct (refused code place) = refusal code place
 
 -- a call that is done wherever refusal 1 passes
@@ -40,6 +42,7 @@ abbrev pub foundStruct : Answer Result → ℕ → Found
 foundStruct (done (value n)) probes = record { outcome = success n; address = memoryAddress 0; rights = 0; left = 0; probes = probes }
 foundStruct (done (location a rights left)) probes = record { outcome = success 0; address = a; rights = rights; left = left; probes = probes }
 foundStruct (done (line l)) probes = record { outcome = success 0; address = memoryAddress 0; rights = 0; left = 0; probes = probes }
+foundStruct (done (walked n index)) probes = record { outcome = success n; address = memoryAddress 0; rights = 0; left = 0; probes = probes }
 foundStruct (refused code place) probes = record { outcome = refusal code place; address = memoryAddress 0; rights = 0; left = 0; probes = probes }
 
 -- what is shown of a line
@@ -50,7 +53,19 @@ abbrev pub lineStruct : Answer Result → ShownLine
 lineStruct (done (value n)) = noLine (success n)
 lineStruct (done (location a rights left)) = noLine (success 0)
 lineStruct (done (line l)) = record { outcome = success 0; number = l .number; tally = l .tally; masked = flagged (l .masked); pending = flagged (l .pending) }
+lineStruct (done (walked n index)) = noLine (success n)
 lineStruct (refused code place) = noLine (refusal code place)
+
+-- a walk's answer: how many buffers it found, and the ring's index beside it
+abbrev pub indexOf : Answer Result → ℕ
+indexOf (done (value n)) = 0
+indexOf (done (location a rights left)) = 0
+indexOf (done (line l)) = 0
+indexOf (done (walked n index)) = index
+indexOf (refused code place) = 0
+
+abbrev pub walkedStruct : Answer Result → Walked
+walkedStruct a = record { outcome = answerStruct a; index = indexOf a }
 
 -- a step that found no part: refused, or at the end; the walk goes on at `next`
 abbrev pub noPart : Bool → ℕ → ℕ → ℕ → PartStep

@@ -21,6 +21,7 @@ use vfio::Admission;
 use vfio::IommuChange;
 use vfio::IrqChange;
 use vfio::Map;
+use virtqueue::Walk;
 ghost use mathlib.Core.Path.{_≡_};
 ghost use mathlib.Core.Bool.{true, false, not};
 ghost use mathlib.Core.List.{List, []};
@@ -44,12 +45,12 @@ ghost use Rattle.emulator.specs.Machine.{machineOf, emulatorOf, both as stateAn
 ghost use Rattle.emulator.specs.Effect.{value};
 ghost use Rattle.emulator.specs.Requests.{sizeChecks};
 ghost use Rattle.emulator.specs.Calls.{powerOn, request, deviceRead, deviceWrite, hostWrite, hostRead, invalidate, setRegister, readRegister, loadParts, saveParts, stop, start};
-ghost use Rattle.emulator.specs.Contract.{lentMemory, leftMemory, remarkedMemory, told, toldLocation, toldProbes, toldLine};
+ghost use Rattle.emulator.specs.Contract.{lentMemory, leftMemory, remarkedMemory, told, toldLocation, toldProbes, toldLine, toldWalk};
 ghost use Rattle.emulator.specs.declared.State.{State as StateRecord};
 ghost use Rattle.vfio.specs.Entries.{entryAt};
 ghost use Rattle.vfio.specs.Handlers.{setIommuIndex, setIrqsIndex, mapIndex, unmapIndex};
-ghost use Rattle.capi.specs.Structs.{success as succeeded, refusal as refused, answerStruct, doneIf, foundStruct, lineStruct, noPart, keptBy};
-ghost use Rattle.capi.specs.Contract.{Tells, TellsAlone, FindsAt, ShowsLine, IsNot, Fits, Replied, Handled, Judged, Steps};
+ghost use Rattle.capi.specs.Structs.{success as succeeded, refusal as refused, answerStruct, doneIf, foundStruct, lineStruct, walkedStruct, noPart, keptBy};
+ghost use Rattle.capi.specs.Contract.{Tells, TellsAlone, FindsAt, ShowsLine, WalksQueue, IsNot, Fits, Replied, Handled, Judged, Steps};
 
 // An answer: a result, or the number and the place of a refusal.
 #[repr(C)]
@@ -80,6 +81,13 @@ pub struct ShownLine {
     pub tally: u32,
     pub masked: bool,
     pub pending: bool,
+}
+
+// What a walk of a queue answers: its result is the number of buffers, and beside it stands the ring's index.
+#[repr(C)]
+pub struct Walked {
+    pub outcome: Outcome,
+    pub index: u16,
 }
 
 // One step over a stream of parts: a refusal; the end; or a part, with the bounds of its value in the stream. `next` is the place of the
@@ -464,6 +472,72 @@ fn check_transfer(
     let held = emulator::admitted(ok, count);
     let size = emulator::admitted(ok, bytes.len());
     dma::check_transfer(records, held, size, shadow, d, n, write)
+}
+
+// What a walk that has ended answers.
+fn walk_answer(w: Walk) -> Walked
+    ensures { λ r. ⌜ r ≡ walkedStruct (toldWalk w) ⌝ }
+{
+    let verdict = w.verdict;
+    match verdict {
+        Verdict::Pass => {
+            let outcome = success(w.buffers as u64);
+            Walked {
+                outcome,
+                index: w.index,
+            }
+        }
+        Verdict::Fail(code, place) => {
+            let outcome = refusal(code, place);
+            Walked { outcome, index: 0 }
+        }
+    }
+}
+
+// Whether a walk is to store the numbers of what it finds.
+fn storing() -> bool
+    ensures { λ r. ⌜ r ≡ true ⌝ }
+{
+    true
+}
+
+fn judging() -> bool
+    ensures { λ r. ⌜ r ≡ false ⌝ }
+{
+    false
+}
+
+// Walks a queue twice: the first walk judges and counts, and where all is good the second stores.
+#[no_mangle]
+pub extern "C" fn glint_walk_queue(
+    state: &State,
+    records: &[Mapping],
+    bytes: &[u8],
+    shadow: &[u8],
+    queue: u32,
+    last: u16,
+    numbers: &mut [u64],
+) -> Walked
+    ensures { λ r. ⌜ WalksQueue queue last (now (numbers .entry)) (now (state .entry)) (now (records .entry)) (lentMemory bytes shadow) r (now (numbers .exit)) ⌝ }
+{
+    let ok = emulator::usable(state, records, bytes, shadow);
+    let count = state.count;
+    let registers = state.registers;
+    let begun = emulator::begin_walk(ok, registers, queue, last);
+    let q = emulator::queue_at(registers, queue);
+    let found = virtqueue::walk_queue(records, count, bytes, shadow, q, begun, judging(), numbers);
+    let judged = virtqueue::finish(found, numbers.len());
+    virtqueue::walk_queue(
+        records,
+        count,
+        bytes,
+        shadow,
+        q,
+        virtqueue::again(begun, judged),
+        storing(),
+        numbers,
+    );
+    walk_answer(judged)
 }
 
 // Card read.

@@ -5,6 +5,7 @@ pub mod Running
 pub mod HostTransfers
 pub mod DeviceTransfers
 pub mod StateCalls
+pub mod Walking
 pub mod PartCalls
 pub mod Returned
 pub mod SameMarks

@@ -1,6 +1,6 @@
 -- Shadows with the same marks by address, however they are kept, are one to every call.
 use Prim.Native.Nat.{ℕ, zero, suc}
-use mathlib.Core.Path.{_≡_, refl, ap, ap₂}
+use mathlib.Core.Path.{_≡_, refl, ap, ap₂, fun-ext}
 use mathlib.Core.Bool.{Bool}
 use mathlib.Core.List.{List, _∷_}
 use mathlib.Core.Option.{Option, some, none}
@@ -22,9 +22,10 @@ use Rattle.memory.specs.Shadow.{Shadow, initialized}
 use Rattle.memory.specs.Transfers.{unwrittenAt, unwrittenIn, hostWriteChecks, hostReadChecks}
 use Rattle.memory.specs.Memory.{byteAt, bytesFrom}
 use Rattle.dma.specs.Transfers.{readFault, transferChecks, deviceReadChecks, gather}
+use Rattle.virtqueue.specs.Ring.{Reader, cardRead, walk}
 use Rattle.emulator.specs.Machine.{Emulator, Given, memoryAlone, stateAlone, both, lendable, asNoted, usable}
 use Rattle.emulator.specs.Requests.{Request, Entry, getApiVersion, checkExtension, setIommu, getIommuInfo, mapDma, unmapDma, getInfo, getRegionInfo, getIrqInfo, setIrqs, resetDevice, identify, requestChecks, listedChecks, requestEffect, listedEffect}
-use Rattle.emulator.specs.Calls.{Call, powerOn, request, lookUp, deviceRead, deviceWrite, hostWrite, hostRead, invalidate, setRegister, readRegister, showLine, loadParts, saveParts, stop, start, given, ownChecks, checks, effect, outcome}
+use Rattle.emulator.specs.Calls.{Call, powerOn, request, lookUp, deviceRead, deviceWrite, hostWrite, hostRead, invalidate, setRegister, readRegister, showLine, walkQueue, loadParts, saveParts, stop, start, given, queueValue, walkOf, ownChecks, checks, effect, outcome}
 
 -- the same emulator with another shadow
 unfoldable pub shadowedBy : Shadow → Emulator → Emulator
@@ -64,6 +65,17 @@ module _ (t : Shadow) (e : Emulator)
     unfolding gather byteAt shadowedBy
     gather-same ms zero d = refl
     gather-same ms (suc n) d = ap₂ _∷_ refl (gather-same ms n (deviceOffset d 1))
+
+    -- ---- a walk: its card reads are the same, and so the rule over them
+
+    card-same : (ms : List Mapping) → cardRead ms (shadowedBy t e .memory) ≡ cardRead ms (e .memory)
+    unfolding cardRead shadowedBy
+    card-same ms = fun-ext (λ start. fun-ext (λ n. simp (read-same, gather-same)))
+
+    walk-same : (queue last room : ℕ) → walkOf (shadowedBy t e) queue last room ≡ walkOf e queue last room
+    unfolding walkOf shadowedBy
+    walk-same queue last room =
+        ap (λ (read : Reader). walk read queue (queueValue (e .machine .words) (e .machine .registers) queue) last room) (card-same (e .machine .mappings))
 
     -- ---- requests
 
@@ -120,6 +132,7 @@ module _ (t : Shadow) (e : Emulator)
     own-checks-same (setRegister kind selector) buf = refl
     own-checks-same (readRegister kind selector) buf = refl
     own-checks-same (showLine index i) buf = refl
+    own-checks-same (walkQueue queue last) buf = simp walk-same
     own-checks-same loadParts buf = refl
     own-checks-same saveParts buf = refl
     own-checks-same stop buf = refl
@@ -138,6 +151,7 @@ module _ (t : Shadow) (e : Emulator)
     effect-same (setRegister kind selector) buf = refl
     effect-same (readRegister kind selector) buf = refl
     effect-same (showLine index i) buf = refl
+    effect-same (walkQueue queue last) buf = simp walk-same
     effect-same loadParts buf = refl
     effect-same saveParts buf = refl
     effect-same stop buf = refl

@@ -10,7 +10,11 @@ use iommu::Mapping;
 use iommu::Translation;
 use parts::Loaded;
 use registers::Card;
+use registers::Register;
 use registers::Registers;
+use virtqueue::Queue;
+use virtqueue::Walk;
+ghost use Prim.Native.Nat.{ℕ};
 ghost use mathlib.Core.Path.{_≡_};
 ghost use mathlib.Core.Bool.{true};
 ghost use mathlib.Core.List.{List, []};
@@ -28,10 +32,12 @@ ghost use Rattle.registers.specs.File.{soundFile, fileOf};
 ghost use Rattle.registers.specs.declared.Card.the-variants.{Features64, Features128};
 ghost use Rattle.parts.specs.Load.{loadedOf};
 ghost use Rattle.interrupts.specs.Lines.{soundLines};
+ghost use Rattle.virtqueue.specs.Ring.{queueOf};
+ghost use Rattle.virtqueue.specs.Progress.{begun};
 ghost use Rattle.emulator.specs.Machine.{machineOf, emulatorOf, both as stateAndMemory, sound as soundMachine, lendable as canLend, lendableRecords, usable as canUse, poweredOn};
-ghost use Rattle.emulator.specs.Calls.{hostWrite, hostRead, setRegister, readRegister, showLine, saveParts, loadOn};
+ghost use Rattle.emulator.specs.Calls.{hostWrite, hostRead, setRegister, readRegister, showLine, saveParts, loadOn, queueValue};
 ghost use Rattle.emulator.specs.Calls as calls;
-ghost use Rattle.emulator.specs.Contract.{Meets, MeetsAlone, Locates, lentMemory, leftMemory, remarkedMemory, told, toldLine, withRegistersIn, stateWith, everything};
+ghost use Rattle.emulator.specs.Contract.{Meets, MeetsAlone, Locates, lentMemory, leftMemory, remarkedMemory, told, toldLine, withRegistersIn, stateWith, everything, queueRegister, openingChecks};
 ghost use Rattle.emulator.specs.declared.State.{State as StateRecord};
 
 // The state that a caller keeps between calls: the length of memory noted at power on, how many of the lent records are in use, the
@@ -51,6 +57,9 @@ pub struct State {
 
 // What the byte `running` of a state holds where the device runs.
 const RUNNING: u8 = 1;
+
+// The number of the last queue.
+const LAST_QUEUE: u32 = 3;
 
 // What look-up answers: memory address, rights and the bytes left of the mapping, or a refusal's number and place; and in either case how
 // many records it looked at.
@@ -370,6 +379,60 @@ pub fn show_line(ok: bool, lines: Lines, index: u32, line: u32) -> Shown
             Shown::At(found)
         }
     }
+}
+
+// The register of a queue; for a number that no queue has, that of the first.
+fn queue_register(registers: Registers, queue: u32) -> Register
+    ensures { λ r. ⌜ (r ≡ queueRegister registers queue) × (length (r .bytes) ≡ 32) ⌝ }
+{
+    let slots = registers.slots;
+    match queue {
+        1 => slots[7],
+        2 => slots[8],
+        3 => slots[9],
+        _ => slots[6],
+    }
+}
+
+// What the register of a queue tells of it. Where the checks of a walk refuse, nothing is asked of it.
+pub fn queue_at(registers: Registers, queue: u32) -> Queue
+    ensures { λ r. ⌜ r ≡ queueOf (queueRegister registers queue .bytes) ⌝ }
+{
+    let r = queue_register(registers, queue);
+    let bytes = r.bytes;
+    Queue {
+        size: wire::get_u16(&bytes, 0),
+        table: wire::get_u64(&bytes, 8),
+        driver: wire::get_u64(&bytes, 16),
+    }
+}
+
+// The checks of a walk that read nothing.
+fn check_queue(ok: bool, registers: Registers, queue: u32) -> Verdict
+    ensures { λ r. ⌜ ((w : ℕ) → r ≡ openingChecks ok queue (queueValue w (fileOf w registers) queue)) ⌝ }
+{
+    if !ok {
+        return Verdict::Fail(answer::BAD_BENCH, 0);
+    }
+    if LAST_QUEUE < queue {
+        return Verdict::Fail(answer::INDEX, 0);
+    }
+    let r = queue_register(registers, queue);
+    let bytes = r.bytes;
+    if r.set != registers::SET {
+        return Verdict::Fail(answer::QUEUE_NOT_READY, 0);
+    }
+    if wire::get_u16(&bytes, 4) == 0 {
+        return Verdict::Fail(answer::QUEUE_NOT_READY, 0);
+    }
+    Verdict::Pass
+}
+
+// The walk of a queue from the caller's last index on, which has read nothing. Of every card the register of a queue is the same.
+pub fn begin_walk(ok: bool, registers: Registers, queue: u32, last: u16) -> Walk
+    ensures { λ r. ⌜ ((w : ℕ) → r ≡ begun (openingChecks ok queue (queueValue w (fileOf w registers) queue)) last) ⌝ }
+{
+    virtqueue::begin(check_queue(ok, registers, queue), last)
 }
 
 // What loading a stream of parts comes to, and the registers that were loaded: those named take their values, all others become unset;

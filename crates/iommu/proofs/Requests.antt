@@ -52,18 +52,26 @@ halving-finds size ms d sound =
     record { mapping = sym (translate-at ms d _ _ p size sound _ refl); held = sym (mapped-at ms d _ _ p size sound) }
 
 -- what `shown_by` asks of a record in use, and of the blank one
-pub record-range : (size : ℕ) (ms : List Mapping) (i : ℕ) → soundTable size ms ≡ true → i < length ms → inRange size (getD ms i blank) ≡ true
-unfolding soundTable inRange inDeviceRange inMemoryRange
-record-range size ms i sound h =
-    let f : Facts size (getD ms i blank) = sound-at size 0 ms i blank sound h in
-    and-made _ _ (le-leb _ _ (f .below)) (le-leb _ _ (f .within))
+facts-range : {size : ℕ} {m : Mapping} → Facts size m → inRange size m ≡ true
+unfolding inRange inDeviceRange inMemoryRange
+facts-range f = and-made _ _ (le-leb _ _ (f .below)) (le-leb _ _ (f .within))
 
-pub shown-asks : (size : ℕ) (ms : List Mapping) (d : DeviceAddress) (i : ℕ) → soundTable size ms ≡ true → (m : Mapping) → m ≡ getD ms i blank → holds m d ≡ true → inRange size m ≡ true
-shown-asks size ms d i sound m e h = go (ltb i (length ms)) refl
-  where
-    go : (s : Bool) → ltb i (length ms) ≡ s → inRange size m ≡ true
-    go true t = rw e (record-range size ms i sound (ltb-true _ _ t))
-    go false t = absurd (true≢false (sym h ∙ rw (e, List·getD-eq-default ms blank {n = i} (ltb-false _ _ t)) (blank-holds d)))
+pub record-range : (size : ℕ) (ms : List Mapping) (i : ℕ) → soundTable size ms ≡ true → i < length ms → inRange size (getD ms i blank) ≡ true
+unfolding soundTable
+record-range size ms i sound h = facts-range (sound-at size 0 ms i blank sound h)
+
+-- a record that holds an address is in use
+module _ (size : ℕ) (ms : List Mapping) (d : DeviceAddress) (i : ℕ) (sound : soundTable size ms ≡ true) (m : Mapping) (e : m ≡ getD ms i blank) (h : holds m d ≡ true) where
+  pub shown-facts : Facts size m
+  unfolding soundTable
+  shown-facts = go (ltb i (length ms)) refl
+    where
+      go : (s : Bool) → ltb i (length ms) ≡ s → Facts size m
+      go true t = rw e (sound-at size 0 ms i blank sound (ltb-true _ _ t))
+      go false t = absurd (true≢false (sym h ∙ rw (e, List·getD-eq-default ms blank {n = i} (ltb-false _ _ t)) (blank-holds d)))
+
+  pub shown-asks : inRange size m ≡ true
+  shown-asks = facts-range shown-facts
 
 -- ---- map
 

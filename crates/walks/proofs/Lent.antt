@@ -1,9 +1,10 @@
 -- The MIR types of what a function is lent, or lends on, in a derivation by hand; and what else a derivation over lent structs and bytes names.
 --     bytes            the type of a lent buffer's elements
+--     numbers          that of a lent array of 8-byte numbers' elements.        lentNumbersAt, lentNumbersHere      the pointers of `&'j mut [u64]`, and of a loan that the function makes
 --     bytesAt, lentBytesAt       the pointers of `&'j [u8]` and of `&'j mut [u8]`.        bytesHere, lentBytesHere      those of a loan that the function makes
 --     refAt, lentRefAt, refHere, lentRefHere     the same of a struct, `&'j S` and `&'j mut S`
 use Prim.Native.Nat.{ℕ}
-use mir.Syntax.{Ty, tyRef, named, erased, imm, mut, tyInt, w8}
+use mir.Syntax.{Ty, tyRef, named, erased, imm, mut, tyInt, w8, w64}
 use denote.Memory.{pointee}
 use denote.RattleType.{RattleType}
 use borrow.Table.Referent.{rtF}
@@ -29,6 +30,15 @@ bytesHere = tyRef erased imm (tyInt w8)
 
 abbrev pub lentBytesHere : Ty
 lentBytesHere = tyRef erased mut (tyInt w8)
+
+abbrev pub numbers : RattleType
+numbers = rtF (fInt w64)
+
+abbrev pub lentNumbersAt : ℕ → Ty
+lentNumbersAt j = tyRef (named j) mut (tyInt w64)
+
+abbrev pub lentNumbersHere : Ty
+lentNumbersHere = tyRef erased mut (tyInt w64)
 
 module _ (S : Struct) where
   abbrev pub refAt : ℕ → Ty

@@ -146,6 +146,28 @@ pub const LOOK_UP: Call = Call {
     moves: None,
 };
 
+/// A walk of the world's queue by a program.
+macro_rules! walk {
+    ($program:ident, $w:ident) => {
+        $program::walk_queue(
+            &$w.state,
+            &$w.records,
+            $w.memory.get(),
+            $w.marks.get(),
+            $w.queue,
+            $w.last,
+            &mut $w.numbers,
+        )
+    };
+}
+
+pub const WALK_QUEUE: Call = Call {
+    name: "walk-queue",
+    emulator: repeat!(|w| !walk!(emulator, w).outcome.refused),
+    plain: repeat!(|w| walk!(plain, w).is_ok()),
+    moves: None,
+};
+
 /// The new mapping lies behind all others.
 pub const MAP: Call = Call {
     name: "map",

@@ -89,6 +89,8 @@ fn contenders(measure: &mut Measure, rivals: &[Rival]) -> Vec<Contender> {
 mod tests {
     use super::*;
     use crate::world::{unmap_request, PAGE};
+    use std::collections::BTreeSet;
+
     use glintbasket::raw::{self, Mapping, State, LINES};
     use glintbasket::{
         Bench, DeviceAddress, IommuType, MemoryAddress, OwnedBench, Rights, Target, DEVICE_LIMIT,
@@ -103,6 +105,7 @@ mod tests {
         marks: Vec<u8>,
         records: Vec<Mapping>,
         state: State,
+        numbers: Vec<u64>,
     }
 
     fn left(measure: &Measure, program: Program) -> Left {
@@ -112,8 +115,10 @@ mod tests {
         world.map = measure.world.map;
         world.unmap = measure.world.unmap;
         world.size = measure.world.size;
-        let stream = measure.world.buffer.get();
+        world.numbers = measure.world.numbers.clone();
+        let (stream, memory) = (given.buffer.get(), given.memory.get());
         world.buffer.get_mut().copy_from_slice(stream);
+        world.memory.get_mut().copy_from_slice(memory);
         let accepted = program(&mut world, 1);
         Left {
             accepted,
@@ -122,6 +127,7 @@ mod tests {
             marks: world.marks.get().to_vec(),
             records: world.records,
             state: world.state,
+            numbers: world.numbers,
         }
     }
 
@@ -179,6 +185,72 @@ mod tests {
                 assert_eq!((state, &records[..]), (*bench.state(), bench.records()));
             }
         }
+    }
+
+    /// Each 16-bit field of the first descriptors and of the ring holds numbers at the edges, or nobody wrote
+    /// it; arrays of several lengths.
+    #[test]
+    fn the_plain_walk_answers_what_the_emulator_answers() {
+        let mut answers = BTreeSet::new();
+        let mut walked = |world: &World, last| {
+            let (state, records) = (&world.state, &world.records);
+            let (memory, marks) = (world.memory.get(), world.marks.get());
+            for room in [47, 48, 50] {
+                let (mut one, mut other) = (vec![7; room], vec![7; room]);
+                let emulator = raw::walk_queue(state, records, memory, marks, 0, last, &mut one);
+                let outcome = emulator.outcome;
+                let expected = match outcome.refused {
+                    true => Err((outcome.code, outcome.place)),
+                    false => Ok((outcome.result as usize, emulator.index)),
+                };
+                let plain = plain::walk_queue(state, records, memory, marks, 0, last, &mut other);
+                assert_eq!(plain.map_err(|r| (r.code, r.place)), expected);
+                assert_eq!(one, other);
+                answers.insert(outcome.code);
+            }
+        };
+        let mut world = World::full(1, 0).offering(16);
+        let ring = PAGE;
+        // Flags and next of the first head's descriptor, which is number 3, and of another; index and heads.
+        for at in [
+            60,
+            62,
+            8 * 16 + 12,
+            8 * 16 + 14,
+            ring + 2,
+            ring + 4,
+            ring + 6,
+        ] {
+            let before = [world.memory.get()[at], world.memory.get()[at + 1]];
+            for number in [0u16, 1, 3, 4, 5, 7, 16, 17, 255, 256, 257, u16::MAX] {
+                world.memory.get_mut()[at..at + 2].copy_from_slice(&number.to_le_bytes());
+                for last in [0, 1, 15, 16, 17, u16::MAX] {
+                    walked(&world, last);
+                }
+            }
+            world.memory.get_mut()[at..at + 2].copy_from_slice(&before);
+            world.marks.get_mut()[at / 8] = !(1 << (at % 8));
+            walked(&world, 0);
+            world.marks.get_mut()[at / 8] = 255;
+        }
+        for address in [0, 1 << 47, DEVICE_LIMIT - 16, DEVICE_LIMIT, u64::MAX - 15] {
+            for at in [8, 16] {
+                let value = &mut world.state.registers.slots[6].bytes;
+                let before = *value;
+                value[at..at + 8].copy_from_slice(&address.to_le_bytes());
+                walked(&world, 0);
+                world.state.registers.slots[6].bytes = before;
+            }
+        }
+        // A descriptor that leads to itself.
+        world.memory.get_mut()[60..64].copy_from_slice(&[1, 0, 3, 0]);
+        walked(&world, 0);
+        world.records[0].rights = Rights::WRITE;
+        walked(&world, 0);
+        world.state.registers.slots[6].bytes[4] = 0;
+        walked(&world, 0);
+        let expected = [0, 9, 14, 15, 16, 27, 28, 29, 30, 31, 32];
+        assert_eq!(answers, BTreeSet::from(expected));
     }
 
     /// Both ask the same of each interrupt line.

@@ -28,6 +28,11 @@ pub fn measures() -> Vec<Measure> {
     for records in [0, 1, 16, 64, 1024, 4096] {
         add(calls::LOOK_UP, World::full(records, 1));
     }
+    for records in [1, 64, 4096] {
+        for heads in [16, world::QUEUE_SIZE] {
+            add(calls::WALK_QUEUE, World::full(records, 0).offering(heads));
+        }
+    }
     for records in [1, 64, 1024, 4096] {
         let with_room = || World::new(records, records - 1, world::PAGE);
         add(calls::MAP, with_room());

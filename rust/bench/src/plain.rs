@@ -5,7 +5,8 @@
 use glintbasket::raw::{REGISTERS, SLOTS};
 use glintbasket::{
     DeviceAddress, IommuType, Location, LookUpError, Mapping, MemoryAddress, Register, Registers,
-    Rights, State, DEVICE_LIMIT, MEMORY_LIMIT, PAGE_SIZE, RECORDS_LIMIT, TRANSFER_LIMIT,
+    Rights, State, BUFFER_NUMBERS, DEVICE_LIMIT, MEMORY_LIMIT, PAGE_SIZE, RECORDS_LIMIT,
+    TRANSFER_LIMIT,
 };
 
 #[derive(Clone, Copy, Debug, PartialEq, Eq)]
@@ -326,6 +327,107 @@ fn search(held: &[Mapping], device: DeviceAddress) -> (Option<&Mapping>, u64) {
         }
     }
     (None, probes)
+}
+
+// ---- walks of queues
+
+/// The slot of queue 0.
+const QUEUES: usize = 6;
+const NEXT: u16 = 1;
+const INDIRECT: u16 = 4;
+
+/// Bytes that the card reads some way behind an address. Faults are told by device address.
+fn fetch<const N: usize>(
+    held: &[Mapping],
+    memory: &[u8],
+    marks: &[u8],
+    address: u64,
+    behind: u64,
+) -> Answer<[u8; N]> {
+    let start = address.saturating_add(behind);
+    if start > DEVICE_LIMIT - N as u64 {
+        return at(9, start);
+    }
+    let mut bytes = [0; N];
+    runs(held, DeviceAddress(start), N, |offset, place, n, rights| {
+        if !rights.contains(Rights::READ) {
+            return at(15, offset as u64);
+        }
+        if let Some(i) = first_unwritten(marks, place, n) {
+            return at(16, (offset + i) as u64);
+        }
+        bytes[offset..offset + n].copy_from_slice(&memory[place..place + n]);
+        Ok(())
+    })
+    .map_err(|refusal| Refusal {
+        place: start + refusal.place,
+        ..refusal
+    })?;
+    Ok(bytes)
+}
+
+/// The number of buffers and the ring's index. What is found is kept until nothing can be refused any more.
+#[inline(never)]
+pub fn walk_queue(
+    state: &State,
+    records: &[Mapping],
+    memory: &[u8],
+    marks: &[u8],
+    queue: u32,
+    last: u16,
+    numbers: &mut [u64],
+) -> Answer<(usize, u16)> {
+    if !usable(state, records, memory, marks) {
+        return refuse(1);
+    }
+    if queue > 3 {
+        return refuse(6);
+    }
+    let register = &state.registers.slots[QUEUES + queue as usize];
+    let value = &register.bytes;
+    if !register.is_set() || u16_at(value, 4) == 0 {
+        return refuse(28);
+    }
+    let (size, table, driver) = (u16_at(value, 0), u64_at(value, 8), u64_at(value, 16));
+    let held = &records[..state.count];
+    let in_ring = |behind| fetch(held, memory, marks, driver, behind).map(u16::from_le_bytes);
+    let index = in_ring(2)?;
+    let distance = index.wrapping_sub(last);
+    if distance > size {
+        return refuse(29);
+    }
+    let mut found = Vec::with_capacity(BUFFER_NUMBERS * usize::from(distance));
+    for finished in 0..distance {
+        let place = last.wrapping_add(finished) % size;
+        let mut number = in_ring(4 + 2 * u64::from(place))?;
+        let finished = finished.into();
+        let mut count = 0;
+        loop {
+            if number >= size {
+                return at(30, finished);
+            }
+            let descriptor: [u8; 16] = fetch(held, memory, marks, table, 16 * u64::from(number))?;
+            let flags = u16_at(&descriptor, 12);
+            if flags & INDIRECT != 0 {
+                return at(32, finished);
+            }
+            let (address, length) = (u64_at(&descriptor, 0), u32_at(&descriptor, 8));
+            found.extend([address, length.into(), flags.into()]);
+            count += 1;
+            if flags & NEXT == 0 {
+                break;
+            }
+            if count == size {
+                return at(31, finished);
+            }
+            number = u16_at(&descriptor, 14);
+        }
+    }
+    match numbers.get_mut(..found.len()) {
+        Some(room) => room.copy_from_slice(&found),
+        None => return refuse(27),
+    }
+    Ok((found.len() / BUFFER_NUMBERS, index))
 }
 
 // ---- map and unmap, each behind the checks of a request

@@ -4,7 +4,8 @@ use std::hint::black_box;
 
 use glintbasket::raw::{self, SLOTS};
 use glintbasket::{
-    kind, marks_len, Bench, DeviceAddress, Mapping, MemoryAddress, Rights, State, RECORDS_LIMIT,
+    kind, marks_len, Bench, DeviceAddress, Mapping, MemoryAddress, Rights, State, BUFFER_NUMBERS,
+    RECORDS_LIMIT,
 };
 
 pub const PAGE: usize = 4096;
@@ -12,6 +13,8 @@ const PAGES: usize = 64;
 /// The device address of the first mapping.
 const DEVICE: u64 = 0x1_0000_0000;
 const BOTH: Rights = Rights(3);
+/// The descriptors of every queue.
+pub const QUEUE_SIZE: usize = 256;
 /// A device address above those of all mappings.
 const SPARE: u64 = DEVICE + (2 * RECORDS_LIMIT * PAGE) as u64;
 
@@ -60,6 +63,10 @@ pub struct World {
     /// The buffers of map and of unmap.
     pub map: [u8; 32],
     pub unmap: [u8; 24],
+    /// Of a walk: the queue, the caller's last index and the array.
+    pub queue: u32,
+    pub last: u16,
+    pub numbers: Vec<u64>,
 }
 
 impl World {
@@ -105,7 +112,43 @@ impl World {
                 DEVICE + (held.saturating_sub(1) * PAGE) as u64,
                 pages * PAGE,
             ),
+            queue: 0,
+            last: 0,
+            numbers: Vec::new(),
         }
+    }
+
+    /// Puts a queue into the first two pages that the device sees, its descriptors and its ring, with so
+    /// many heads of one descriptor each, and room for the walk. Its size is the number of heads.
+    pub fn offering(mut self, heads: usize) -> World {
+        let mut table = Vec::new();
+        let mut ring = vec![0, 0];
+        ring.extend((heads as u16).to_le_bytes());
+        for i in 0..QUEUE_SIZE {
+            table.extend((DEVICE + (i * PAGE) as u64).to_le_bytes());
+            table.extend((PAGE as u32).to_le_bytes());
+            table.extend([0; 4]);
+            let head = (5 * i + 3) % QUEUE_SIZE;
+            ring.extend((head as u16).to_le_bytes());
+        }
+        let driver = DEVICE + table.len() as u64;
+        let mut queue = queue_value();
+        queue[4] = 1; // enabled
+        queue[8..16].copy_from_slice(&DEVICE.to_le_bytes());
+        queue[16..24].copy_from_slice(&driver.to_le_bytes());
+        let (memory, marks) = (self.memory.get_mut(), self.marks.get_mut());
+        let mut bench = Bench::resume(self.state, &mut self.records, memory, marks);
+        table.extend(ring);
+        bench
+            .device_write(DeviceAddress(DEVICE), &table)
+            .expect("two pages that the device may write");
+        bench
+            .set_register(kind::QUEUE_CONFIG, self.queue.into(), &queue)
+            .expect("a queue");
+        self.state = *bench.state();
+        self.numbers = vec![0; BUFFER_NUMBERS * heads];
+        self.size = heads;
+        self
     }
 
     /// Leaves only status set.
@@ -145,9 +188,15 @@ fn hold(bench: &mut Bench, held: usize, pages: usize) {
     }
 }
 
+/// A queue that is not enabled.
+fn queue_value() -> [u8; 32] {
+    let mut value = [0; 32];
+    value[..2].copy_from_slice(&(QUEUE_SIZE as u16).to_le_bytes());
+    value
+}
+
 fn set_registers(bench: &mut Bench) {
-    let mut queue = [0; 32];
-    queue[1] = 1; // 256
+    let queue = queue_value();
     for (kind, selector, size) in SLOTS {
         let value = match kind {
             kind::DRIVER_FEATURES => &[0, 0, 0, 0x30, 1, 0, 0, 0][..],

@@ -34,13 +34,14 @@ pub struct Lent {
     pub marks: usize,
 }
 
-/// A call but for its buffer.
+/// A call but for its buffer, which for a walk of a queue is its array, eight bytes to a number.
 #[derive(Clone, Copy, Debug, PartialEq, Eq)]
 pub enum Call {
     FreshStart { card: Card },
     Request { target: u32, number: u32 },
     LookUp { device: u64 },
     ShowLine { index: u32, line: u32 },
+    WalkQueue { queue: u32, last: u16 },
     CardRead { device: u64 },
     CardWrite { device: u64 },
     HostStore { address: u64 },
@@ -69,6 +70,10 @@ pub enum Answer {
         masked: bool,
         pending: bool,
         tally: u64,
+    },
+    Walked {
+        buffers: u64,
+        index: u64,
     },
     Part {
         kind: u64,

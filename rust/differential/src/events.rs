@@ -10,13 +10,14 @@ use glintbasket::raw::SLOTS;
 
 use crate::call::{Answer, Call, Made, Step};
 use crate::interrupts::{self, Fields};
+use crate::queues::{Queue, INDIRECT, NEXT};
 use crate::trio::Trio;
 
 const TOP: u64 = 1 << 48;
 const LONGEST: usize = 65_536;
 
 #[rustfmt::skip]
-pub const EVENTS: [&str; 137] = [
+pub const EVENTS: [&str; 169] = [
     "card read of 65,536 bytes accepted",
     "card write of 65,536 bytes accepted",
     "host store of 65,536 bytes accepted",
@@ -154,6 +155,38 @@ pub const EVENTS: [&str; 137] = [
     "fresh start with a line set up accepted",
     "load with a line set up accepted",
     "line shown whose byte for a flag is above 1",
+    "walk that finds nothing new",
+    "walk of as many heads as the queue has descriptors",
+    "walk past index 65,535",
+    "walk of a chain of as many descriptors as the queue has",
+    "walk of several heads, one of them with a chain",
+    "walk of a queue of 256 descriptors",
+    "walk of a ring whose flags nobody wrote",
+    "walk while the device runs",
+    "walk of descriptors in two mappings",
+    "walk into an array with just enough room",
+    "walk into an array with more room than is needed",
+    "walk gives 27 for one number too few",
+    "walk gives 29 for one head more than the queue has descriptors",
+    "walk gives 29 for an index just below the last one",
+    "walk gives 30 for a head that is the size",
+    "walk gives 30 for a next that is the size",
+    "walk gives 30 behind heads that are finished",
+    "walk gives 31 for a chain that leads back",
+    "walk gives 31 for a chain that leads nowhere",
+    "walk gives 31 behind heads that are finished",
+    "walk gives 32 for a descriptor that ends its chain",
+    "walk gives 32 for a descriptor behind which its chain is too long",
+    "walk gives 32 behind heads that are finished",
+    "walk gives 16 for the ring's index",
+    "walk gives 16 for a head",
+    "walk gives 16 for the next of a descriptor that ends its chain",
+    "walk gives 9 where its read begins",
+    "walk gives 9 for a read that begins past 2^64 - 1",
+    "walk gives 28 for a queue that is not set",
+    "walk gives 28 for a queue whose byte for set is above 1",
+    "walk gives 28 for a queue that is not enabled",
+    "walk gives 28 for a queue of size 0",
 ];
 
 const FEW_MARKS: usize = 34;
@@ -241,6 +274,38 @@ const RESET_LINES: usize = 133;
 const START_LINES: usize = 134;
 const LOAD_LINES: usize = 135;
 const SHOWN_ABOVE_1: usize = 136;
+const NOTHING_NEW: usize = 137;
+const FULL_RING: usize = 138;
+const PAST_65535: usize = 139;
+const LONGEST_CHAIN: usize = 140;
+const HEADS_AND_CHAIN: usize = 141;
+const LARGEST_QUEUE: usize = 142;
+const RING_FLAGS: usize = 143;
+const WALK_RUNNING: usize = 144;
+const SEVERAL_TABLES: usize = 145;
+const EXACT_ARRAY: usize = 146;
+const LONG_ARRAY: usize = 147;
+const SHORT_ARRAY: usize = 148;
+const ONE_TOO_FAR: usize = 149;
+const ONE_BEHIND: usize = 150;
+const HEAD_OF_SIZE: usize = 151;
+const NEXT_OF_SIZE: usize = 152;
+const INDEX_LATER: usize = 153;
+const LOOP: usize = 154;
+const LONG_AND_BEYOND: usize = 155;
+const LONG_LATER: usize = 156;
+const INDIRECT_END: usize = 157;
+const INDIRECT_LONG: usize = 158;
+const INDIRECT_LATER: usize = 159;
+const UNWRITTEN_INDEX: usize = 160;
+const UNWRITTEN_HEAD: usize = 161;
+const UNWRITTEN_NEXT: usize = 162;
+const READ_PAST: usize = 163;
+const READ_CAPPED: usize = 164;
+const QUEUE_UNSET: usize = 165;
+const QUEUE_SET_ABOVE: usize = 166;
+const QUEUE_DISABLED: usize = 167;
+const QUEUE_EMPTY: usize = 168;
 
 pub struct Events {
     counts: [u64; EVENTS.len()],
@@ -443,6 +508,23 @@ impl Events {
             Call::ShowLine { index, line } if done => {
                 let line = trio.state.lines[index as usize][line as usize];
                 self.saw(SHOWN_ABOVE_1, line.masked > 1 || line.pending > 1);
+            }
+            Call::WalkQueue { queue, last } => {
+                let value = trio.state.registers.get(&(0x104, queue.into()));
+                let queue_of = value.map(|value| Queue::read(value));
+                match queue_of {
+                    Some(queue) if queue.enabled => {
+                        self.walked(&queue, last, made.buffer.len() as u64 / 8, answer, trio);
+                    }
+                    other => {
+                        let above = queue < 4 && before.set_above[6 + queue as usize];
+                        self.saw(QUEUE_UNSET, refused == 28 && other.is_none());
+                        self.saw(QUEUE_SET_ABOVE, refused == 28 && above);
+                        let size = other.map(|queue| queue.size);
+                        self.saw(QUEUE_DISABLED, refused == 28 && size > Some(0));
+                        self.saw(QUEUE_EMPTY, refused == 28 && size == Some(0));
+                    }
+                }
             }
             Call::Forget { address, length } => {
                 self.saw(6, done && length == 0 && address == noted);
@@ -661,6 +743,98 @@ impl Events {
         self.saw(FEW_DATA, refusal == 4 && has_them && argsz < needed);
         let good = |offset| interrupts::event_at(buffer, offset) >= Some(-1);
         self.saw(LATER_LOW, refusal == 22 && good(0));
+    }
+
+    /// Of a walk of a queue that is set and enabled, into so many numbers. It left all as it was.
+    fn walked(&mut self, queue: &Queue, last: u16, room: u64, answer: &Answer, trio: &Trio) {
+        let distance = queue.distance(last, trio);
+        // The chain of the head so many places behind the last index.
+        let chain = |i| {
+            let head = queue.head(u64::from(last) + i, trio)?;
+            Some((head, queue.chain(head, trio)))
+        };
+        match *answer {
+            Answer::Walked { buffers, index } => {
+                let heads = distance.unwrap_or(0);
+                let lengths: Vec<u64> = (0..heads)
+                    .filter_map(chain)
+                    .map(|(_, chain)| chain.len() as u64)
+                    .collect();
+                self.saw(NOTHING_NEW, buffers == 0);
+                self.saw(FULL_RING, heads == queue.size);
+                self.saw(PAST_65535, heads > 0 && index < u64::from(last));
+                let longest = lengths.iter().max().copied().unwrap_or(0);
+                self.saw(LONGEST_CHAIN, longest > 1 && longest == queue.size);
+                self.saw(HEADS_AND_CHAIN, heads > 1 && longest > 1);
+                self.saw(LARGEST_QUEUE, buffers > 1 && queue.size == 256);
+                let flags = trio.shown_number(queue.driver, 2);
+                self.saw(RING_FLAGS, buffers > 0 && flags.is_none());
+                self.saw(WALK_RUNNING, buffers > 0 && trio.state.running);
+                self.saw(EXACT_ARRAY, buffers > 0 && room == 3 * buffers);
+                self.saw(LONG_ARRAY, buffers > 0 && room > 3 * buffers);
+                // All descriptors are walked, and they do not lie in one mapping.
+                let table = DeviceRange::new(DeviceAddress(queue.descriptors), 16 * queue.size);
+                let in_one = |m: &Mapping| m.holds(table.first) && m.holds(table.end - 1);
+                let apart = !trio.state.mappings().iter().any(in_one);
+                self.saw(SEVERAL_TABLES, longest == queue.size && apart);
+            }
+            Answer::Refused { code: 9, place } => {
+                self.saw(READ_PAST, place < u64::MAX);
+                self.saw(READ_CAPPED, place == u64::MAX);
+            }
+            Answer::Refused { code: 16, place } => self.unwritten(queue, last, place, trio),
+            Answer::Refused { code: 27, .. } => {
+                let needed: u64 = (0..distance.unwrap_or(0))
+                    .filter_map(chain)
+                    .map(|(_, chain)| 3 * chain.len() as u64)
+                    .sum();
+                self.saw(SHORT_ARRAY, room + 1 == needed);
+            }
+            Answer::Refused { code: 29, .. } => {
+                self.saw(ONE_TOO_FAR, distance == Some(queue.size + 1));
+                self.saw(ONE_BEHIND, distance == Some(0xffff));
+            }
+            Answer::Refused { code, place } => {
+                if let Some((head, chain)) = chain(place) {
+                    self.chain_refused(queue, head, &chain, code);
+                }
+                let later = place > 0;
+                self.saw(INDEX_LATER, code == 30 && later);
+                self.saw(LONG_LATER, code == 31 && later);
+                self.saw(INDIRECT_LATER, code == 32 && later);
+            }
+            _ => {}
+        }
+    }
+
+    /// Of a walk that was refused with 30, 31 or 32 at a head and its chain.
+    fn chain_refused(&mut self, queue: &Queue, head: u64, chain: &[(u64, u64)], code: u64) {
+        self.saw(HEAD_OF_SIZE, code == 30 && head == queue.size);
+        let Some(&(flags, next)) = chain.last() else {
+            return;
+        };
+        let (ends, whole) = (flags & NEXT == 0, chain.len() as u64 == queue.size);
+        self.saw(NEXT_OF_SIZE, code == 30 && next == queue.size);
+        self.saw(LOOP, code == 31 && next < queue.size);
+        self.saw(LONG_AND_BEYOND, code == 31 && next >= queue.size);
+        let indirect = code == 32 && flags & INDIRECT != 0;
+        self.saw(INDIRECT_END, indirect && ends);
+        self.saw(INDIRECT_LONG, indirect && !ends && whole);
+    }
+
+    /// Of a walk that met a byte at a device address that nobody wrote.
+    fn unwritten(&mut self, queue: &Queue, last: u16, place: u64, trio: &Trio) {
+        let index = queue.driver + 2;
+        self.saw(UNWRITTEN_INDEX, (index..index + 2).contains(&place));
+        let heads = (0..queue.size).filter_map(|i| queue.head_address(u64::from(last) + i));
+        let at_head = |at: u64| (at..at + 2).contains(&place);
+        self.saw(UNWRITTEN_HEAD, heads.into_iter().any(at_head));
+        let in_table = place.checked_sub(queue.descriptors);
+        if let Some(offset) = in_table.filter(|offset| *offset < 16 * queue.size) {
+            let flags = trio.shown_number(place - offset % 16 + 12, 2);
+            let ends = flags.is_some_and(|flags| flags & (NEXT | INDIRECT) == 0);
+            self.saw(UNWRITTEN_NEXT, offset % 16 >= 14 && ends);
+        }
     }
 
     /// Of a look-up that looked at so many mappings of those held, and found the last of them.

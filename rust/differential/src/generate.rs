@@ -1,5 +1,7 @@
 //! Makes lists of calls: each rule is tried at its edges, mostly with all else in order.
 
+use std::collections::VecDeque;
+
 use glint_reference::bench::{mark_bytes, PAGE};
 use glintbasket::raw::SLOTS;
 use glintbasket::{
@@ -9,6 +11,7 @@ use glintbasket::{
 use crate::call::{Call, Kept, Lent, Made, Step};
 use crate::damage::{self, Damages};
 use crate::interrupts;
+use crate::queues::{self, Patch, Scene};
 use crate::random::Random;
 use crate::streams;
 use crate::trio::{garble, Size, Trio};
@@ -31,7 +34,7 @@ pub struct Generator {
     records: usize,
     steps: usize,
     /// What comes next, whatever else would.
-    pending: Option<Step>,
+    pending: VecDeque<Step>,
     pub damages: Damages,
 }
 
@@ -61,7 +64,7 @@ impl Generator {
             length,
             records,
             steps: 0,
-            pending: None,
+            pending: VecDeque::new(),
             damages: Damages::default(),
         }
     }
@@ -77,7 +80,7 @@ impl Generator {
     /// The next step, for programs that stand like this.
     pub fn next(&mut self, trio: &Trio) -> Step {
         self.steps += 1;
-        if let Some(step) = self.pending.take() {
+        if let Some(step) = self.pending.pop_front() {
             return step;
         }
         match self.steps {
@@ -109,10 +112,12 @@ impl Generator {
                 seed: self.random.number(),
             },
             64..=73 => self.exchange(trio),
+            164..=181 if !trio.state.mappings().is_empty() => self.queue(trio),
             38..=57 if trio.capacity() > LONGEST => {
                 // Behind a store, so that a read finds all written.
                 let (call, buffer) = self.long_move(trio);
-                self.pending = Some(self.made(trio, call, buffer));
+                let step = self.made(trio, call, buffer);
+                self.pending.push_back(step);
                 self.store_all(trio)
             }
             _ => {
@@ -120,6 +125,35 @@ impl Generator {
                 self.made(trio, call, buffer)
             }
         }
+    }
+
+    /// Sets a queue up, and what it is in memory, and walks it a few times.
+    fn queue(&mut self, trio: &Trio) -> Step {
+        let scene = Scene::new(trio.state.mappings(), &mut self.random);
+        let value = scene.register(&mut self.random);
+        let set = Call::SetRegister {
+            kind: 0x104,
+            selector: scene.number.into(),
+        };
+        let noted = noted(trio);
+        for patch in scene.patches(trio.state.mappings()) {
+            let (call, bytes) = match patch {
+                Patch::Store { address, bytes } => (Call::HostStore { address }, bytes),
+                Patch::Forget { address, length } => (Call::Forget { address, length }, Vec::new()),
+            };
+            let step = self.lend(trio, call, bytes, noted);
+            self.pending.push_back(step);
+        }
+        if self.random.one_in(4) {
+            let step = self.lend(trio, Call::Start, Vec::new(), noted);
+            self.pending.push_back(step);
+        }
+        for _ in 0..self.random.from(2, 5) {
+            let (call, array) = scene.walk(&mut self.random);
+            let step = self.made(trio, call, array);
+            self.pending.push_back(step);
+        }
+        self.lend(trio, set, value, noted)
     }
 
     /// A fresh start with all else in order.
@@ -330,7 +364,7 @@ impl Generator {
     // ---- calls
 
     fn call(&mut self, trio: &Trio) -> (Call, Vec<u8>) {
-        match self.random.below(1100) {
+        match self.random.below(1120) {
             0..=4 => (Call::FreshStart { card: self.card() }, Vec::new()),
             5..=309 => self.request(trio),
             310..=359 => {
@@ -369,7 +403,8 @@ impl Generator {
             975..=979 => (Call::Start, Vec::new()),
             980..=999 => self.walk(trio),
             1000..=1079 => interrupts::set_irqs(&mut self.random),
-            _ => (interrupts::show_line(&mut self.random), Vec::new()),
+            1080..=1099 => (interrupts::show_line(&mut self.random), Vec::new()),
+            _ => queues::any_walk(&mut self.random),
         }
     }
 

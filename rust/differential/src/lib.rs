@@ -11,6 +11,7 @@ pub mod interrupts;
 pub mod meaning;
 pub mod pairs;
 pub mod programs;
+pub mod queues;
 pub mod random;
 pub mod run;
 pub mod shorten;

@@ -10,18 +10,18 @@ use crate::call::{Answer, Call};
 /// An accepted call; for the walker, a part.
 const DONE: usize = 0;
 /// The walker's end. Between the two stand the refusals by their numbers.
-const END: usize = 28;
+const END: usize = 33;
 /// A look-up's 14 with no mapping held, so that nothing was looked at.
-const NONE_HELD: usize = 29;
+const NONE_HELD: usize = 34;
 
 /// The last one stands for every other number.
-const ANSWERS: usize = 31;
+const ANSWERS: usize = 36;
 
 /// A call and its answers; after 1, in the order of its checks.
 type Row = (&'static str, &'static [usize]);
 
 #[rustfmt::skip]
-pub const ROWS: [Row; 30] = [
+pub const ROWS: [Row; 33] = [
     ("fresh start",           &[DONE, 1]),
     ("request not listed",    &[1, 2]),
     ("container 100",         &[DONE, 1]),
@@ -40,6 +40,9 @@ pub const ROWS: [Row; 30] = [
     ("device 111 reset",      &[DONE, 1]),
     ("look-up",               &[DONE, 1, 9, 14, NONE_HELD]),
     ("show line",             &[DONE, 1, 6]),
+    ("walk queue, card 64",   &[DONE, 1, 6, 28, 9, 14, 15, 16, 29, 30, 32, 31, 27]),
+    ("walk queue, card 128",  &[DONE, 1, 6, 28, 9, 14, 15, 16, 29, 30, 32, 31, 27]),
+    ("walk queue, no card",   &[1]),
     ("card read",             &[DONE, 1, 13, 9, 14, 15, 16]),
     ("card write",            &[DONE, 1, 13, 9, 14, 15]),
     ("host store",            &[DONE, 1, 13, 9]),
@@ -59,7 +62,7 @@ pub struct Pairs {
     counts: [[u64; ANSWERS]; ROWS.len()],
 }
 
-/// The row of a call on a state: those of requests 102 and 114 go by it.
+/// The row of a call on a state: those of requests 102 and 114 and of a walk go by it.
 pub fn row_of(call: &Call, state: &State) -> usize {
     let name = match *call {
         Call::FreshStart { .. } => "fresh start",
@@ -92,6 +95,11 @@ pub fn row_of(call: &Call, state: &State) -> usize {
         Call::Request { .. } => "request not listed",
         Call::LookUp { .. } => "look-up",
         Call::ShowLine { .. } => "show line",
+        Call::WalkQueue { .. } => match state.words {
+            1 => "walk queue, card 64",
+            2 => "walk queue, card 128",
+            _ => "walk queue, no card",
+        },
         Call::CardRead { .. } => "card read",
         Call::CardWrite { .. } => "card write",
         Call::HostStore { .. } => "host store",
@@ -129,9 +137,11 @@ impl Pairs {
     /// Counts an answer of a [row](row_of).
     pub fn count(&mut self, row: usize, answer: &Answer) {
         let column = match *answer {
-            Answer::Done(_) | Answer::Found { .. } | Answer::Line { .. } | Answer::Part { .. } => {
-                DONE
-            }
+            Answer::Done(_)
+            | Answer::Found { .. }
+            | Answer::Line { .. }
+            | Answer::Walked { .. }
+            | Answer::Part { .. } => DONE,
             Answer::End => END,
             Answer::Refused { code, .. } => code as usize,
             Answer::NotFound { probes: 0, .. } => NONE_HELD,

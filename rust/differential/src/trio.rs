@@ -111,6 +111,17 @@ impl Trio {
         (noted..end).map(|i| is_written(&self.marks, i)).collect()
     }
 
+    /// The number in bytes that device addresses show, if all of them are written.
+    pub fn shown_number(&self, device: u64, width: u64) -> Option<u64> {
+        (0..width).rev().try_fold(0, |number, i| {
+            let address = u128::from(device) + u128::from(i);
+            let mapping = self.state.mappings().iter().find(|m| m.holds(address))?;
+            let place = (mapping.memory.whole() + address - mapping.device.whole()) as usize;
+            let written = is_written(&self.marks, place);
+            written.then(|| number << 8 | u64::from(self.memory[place]))
+        })
+    }
+
     pub fn kept(&self) -> &Kept {
         &self.emulator.kept
     }

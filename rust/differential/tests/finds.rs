@@ -1,6 +1,8 @@
 //! That a wrong emulator would be found: answers are changed on their way, and the program must
 //! notice and shorten the list.
 
+use std::ops::RangeInclusive;
+
 use glint_differential::call::{Answer, Call};
 use glint_differential::interrupts::{event_at, Fields, BOOL, EVENT, SET_IRQS, TRIGGER};
 use glint_differential::run::{run_list, Coverage, Difference};
@@ -429,4 +431,146 @@ fn lines_that_a_fresh_start_keeps_are_found() {
         })
     });
     assert!(difference.shortened().len() <= 4, "{}", difference.report());
+}
+
+// ---- walks of queues
+
+/// A walk refused with one of these numbers.
+fn refused_walk(given: &Given, answer: Answer, codes: RangeInclusive<u64>) -> Option<(u64, u64)> {
+    match (given.call, answer) {
+        (Call::WalkQueue { .. }, Answer::Refused { code, place }) if codes.contains(&code) => {
+            Some((code, place))
+        }
+        _ => None,
+    }
+}
+
+/// A fresh start or a state, the queue's register, its descriptors and its ring, and the walk.
+fn found_in_a_short_list(tamper: Tamper) {
+    let difference = first_difference(tamper);
+    assert!(difference.shortened().len() <= 7, "{}", difference.report());
+}
+
+#[test]
+fn a_walks_place_that_is_an_offset_is_found() {
+    found_in_a_short_list(
+        |given, answer, _| match refused_walk(given, answer, 14..=16) {
+            Some((code, place)) => Answer::Refused {
+                code,
+                place: place % 16,
+            },
+            None => answer,
+        },
+    );
+}
+
+#[test]
+fn a_walks_place_that_is_an_index_is_found() {
+    found_in_a_short_list(|given, answer, _| {
+        match (given.call, refused_walk(given, answer, 30..=32)) {
+            (Call::WalkQueue { last, .. }, Some((code, place))) => Answer::Refused {
+                code,
+                place: place + u64::from(*last),
+            },
+            _ => answer,
+        }
+    });
+}
+
+/// As if the start of a read were a sum in 64 bits.
+#[test]
+fn a_read_whose_start_wraps_is_found() {
+    found_in_a_short_list(
+        |given, answer, _| match refused_walk(given, answer, 9..=9) {
+            Some((code, u64::MAX)) => Answer::Refused { code, place: 0 },
+            _ => answer,
+        },
+    );
+}
+
+/// As if numbers were written while the walk goes on.
+#[test]
+fn numbers_that_a_refused_walk_writes_are_found() {
+    found_in_a_short_list(|given, answer, left| {
+        if refused_walk(given, answer, 30..=32).is_some_and(|(_, finished)| finished > 0) {
+            left.buffer.fill(0);
+        }
+        answer
+    });
+}
+
+#[test]
+fn a_walk_that_asks_for_room_on_its_way_is_found() {
+    found_in_a_short_list(
+        |given, answer, _| match refused_walk(given, answer, 30..=32) {
+            Some((_, finished)) if (given.buffer.len() as u64) < 24 * finished => {
+                Answer::Refused { code: 27, place: 0 }
+            }
+            _ => answer,
+        },
+    );
+}
+
+/// As if the ring's index were never below the caller's.
+#[test]
+fn a_distance_that_does_not_wrap_is_found() {
+    found_in_a_short_list(|given, answer, _| match (given.call, answer) {
+        (Call::WalkQueue { last, .. }, Answer::Walked { index, .. })
+            if index < u64::from(*last) =>
+        {
+            Answer::Refused { code: 29, place: 0 }
+        }
+        _ => answer,
+    });
+}
+
+#[test]
+fn flags_of_a_buffer_that_are_cut_are_found() {
+    found_in_a_short_list(|_, answer, left| {
+        if let Answer::Walked { buffers, .. } = answer {
+            for three in left.buffer.chunks_mut(24).take(buffers as usize) {
+                let flags = number_at(three, 16, 8);
+                put_number(three, 16, 8, flags % 8);
+            }
+        }
+        answer
+    });
+}
+
+#[test]
+fn numbers_behind_the_buffers_that_a_walk_clears_are_found() {
+    found_in_a_short_list(|_, answer, left| {
+        if let Answer::Walked { buffers, .. } = answer {
+            left.buffer[24 * buffers as usize..].fill(0);
+        }
+        answer
+    });
+}
+
+#[test]
+fn a_walk_that_asks_whether_the_device_runs_is_found() {
+    found_in_a_short_list(|given, answer, _| match answer {
+        Answer::Walked { .. } if given.kept.state.is_running() => {
+            Answer::Refused { code: 17, place: 0 }
+        }
+        _ => answer,
+    });
+}
+
+/// As if a queue were enabled once it is set.
+#[test]
+fn a_walk_of_a_queue_that_is_not_enabled_is_found() {
+    found_in_a_short_list(|given, answer, _| {
+        let Call::WalkQueue { queue, .. } = *given.call else {
+            return answer;
+        };
+        let registers = &given.kept.state.registers;
+        match refused_walk(given, answer, 28..=28) {
+            Some(_) if registers.slots[6 + queue as usize].is_set() => Answer::Walked {
+                buffers: 0,
+                index: 0,
+            },
+            _ => answer,
+        }
+    });
 }

@@ -48,6 +48,7 @@ fn memory_may_have_2_to_the_30_bytes_and_not_one_more() {
         },
         Call::CardRead { device: 0 },
         Call::HostLoad { address: 0 },
+        Call::WalkQueue { queue: 0, last: 0 },
         Call::Forget {
             address: LIMIT as u64,
             length: 0,

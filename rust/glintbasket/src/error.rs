@@ -14,7 +14,7 @@ macro_rules! refusals {
 
         impl Refusal {
             /// All refusals, by rising number.
-            pub const ALL: [Refusal; 27] = [$(Refusal::$name,)*];
+            pub const ALL: [Refusal; 32] = [$(Refusal::$name,)*];
 
             /// The name, as `"Unwritten"`.
             pub fn name(self) -> &'static str {
@@ -44,7 +44,8 @@ refusals! {
     Unaligned = 7,
     /// Size 0, or no interrupt line.
     Empty = 8,
-    /// Past 2^48, past the end of memory, or past the last line of an interrupt index.
+    /// Past 2^48, past the end of memory, or past the last line of an interrupt index. Place in a walk of a queue: where the read begins,
+    /// at most 2^64 - 1.
     Range = 9,
     /// The range shares a device address with a held mapping.
     Overlap = 10,
@@ -54,11 +55,11 @@ refusals! {
     Cuts = 12,
     /// A transfer or stream over 65,536 bytes.
     TooLong = 13,
-    /// No mapping holds the device address. Place: the first faulty offset.
+    /// No mapping holds the device address. Place: the first faulty offset; in a walk of a queue the device address of the faulty byte.
     Unmapped = 14,
-    /// The mapping lacks the right. Place: the first faulty offset.
+    /// The mapping lacks the right. Place: the same.
     NoRight = 15,
-    /// Nobody wrote the byte. Place: the first faulty offset.
+    /// Nobody wrote the byte. Place: the same.
     Unwritten = 16,
     /// The device is not stopped.
     Running = 17,
@@ -80,12 +81,22 @@ refusals! {
     Unset = 25,
     /// Offered features cannot be set.
     ReadOnly = 26,
-    /// The output buffer is too small.
+    /// The output buffer is too small, or the array for a walk of a queue.
     NoSpace = 27,
+    /// The queue is not set, or not enabled.
+    QueueNotReady = 28,
+    /// The ring's index is further from the caller's last one than the queue has descriptors.
+    RingDistance = 29,
+    /// A head or a `next` names no descriptor of the queue. Place: how many heads were finished.
+    DescriptorIndex = 30,
+    /// A chain goes on behind as many descriptors as the queue has. Place: how many heads were finished.
+    ChainLength = 31,
+    /// A descriptor is indirect. Place: how many heads were finished.
+    Indirect = 32,
 }
 
 impl Refusal {
-    /// The number, 1 to 27.
+    /// The number, 1 to 32.
     pub fn number(self) -> u32 {
         self as u32
     }
@@ -114,7 +125,7 @@ pub struct Error {
 
 impl Error {
     pub(crate) fn from_code(code: u32, place: u64) -> Error {
-        let refusal = Refusal::from_number(code).expect("the library refuses with 1 to 27");
+        let refusal = Refusal::from_number(code).expect("the library refuses with 1 to 32");
         Error { refusal, place }
     }
 }

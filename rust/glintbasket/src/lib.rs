@@ -82,12 +82,17 @@
 //! The device has 25 interrupt lines. [`Bench::set_irqs`] gives them event numbers, triggers, masks and unmasks them, and
 //! [`Bench::show_line`] shows what each keeps: a driver's handler can be exercised.
 //!
+//! # Queues
+//!
+//! [`Bench::walk_queue`] goes through a split virtqueue as the device does: the driver's ring, and each head's chain of descriptors. A ring
+//! that a driver got wrong is refused with the head, or with the very address of the byte that nobody wrote.
+//!
 //! # What remains for the caller
 //!
 //! Every state, number, length and order of calls has an answer. Three things no call can test, and in safe Rust the types see to them:
 //!
-//! 1. what is lent has as many bytes or records as its length says (a slice);
-//! 2. records, memory, marks, the buffer of one call and the state do not overlap (`&mut`);
+//! 1. what is lent has as many bytes, records or numbers as its length says (a slice);
+//! 2. records, memory, marks, the buffer or array of one call and the state do not overlap (`&mut`);
 //! 3. they are used by one thread at a time (`&mut`).
 //!
 //! From C they are the caller's; `include/glintbasket.h` has the same list.
@@ -113,6 +118,7 @@ mod iommu_type;
 mod irq;
 mod lent;
 mod parts;
+mod queue;
 #[allow(unsafe_code)]
 pub mod raw;
 mod requests;
@@ -126,6 +132,7 @@ pub use error::{Error, LookUpError, Refusal, Result};
 pub use iommu_type::IommuType;
 pub use irq::{IrqAction, IrqData, IrqIndex, Line};
 pub use parts::{Part, Parts, PART_HEADER};
+pub use queue::{Buffer, Walk, Walked};
 #[doc(inline)]
 pub use raw::{Mapping, Register, Registers, State};
 pub use requests::{number, DeviceInfo, IommuInfo, IrqInfo, RegionInfo};
@@ -142,6 +149,12 @@ pub const TRANSFER_LIMIT: usize = 65536;
 pub const RECORDS_LIMIT: usize = 4096;
 /// How many records a bench has where nothing is said.
 pub const DEFAULT_RECORDS: usize = 64;
+/// A queue has at most so many descriptors.
+pub const QUEUE_MAX: usize = 256;
+/// A walk of a queue writes so many numbers for each buffer: address, length and flags.
+pub const BUFFER_NUMBERS: usize = 3;
+/// A walk of a queue never writes more numbers: as many heads as there are descriptors, and as many descriptors in each chain.
+pub const WALKED_MAX: usize = BUFFER_NUMBERS * QUEUE_MAX * QUEUE_MAX;
 /// Saving never writes more bytes, whatever the card (see [`Card::saved_max`]).
 pub const SAVED_MAX: usize = Card::Features128.saved_max();
 

@@ -32,6 +32,11 @@ fn numbers_and_names_are_the_table_s() {
         "Unset",
         "ReadOnly",
         "NoSpace",
+        "QueueNotReady",
+        "RingDistance",
+        "DescriptorIndex",
+        "ChainLength",
+        "Indirect",
     ];
     assert_eq!(Refusal::ALL.map(Refusal::name), names);
     for (number, refusal) in (1..).zip(Refusal::ALL) {
@@ -42,7 +47,7 @@ fn numbers_and_names_are_the_table_s() {
 
 #[test]
 fn no_other_number_is_a_refusal() {
-    for number in [0, 28, u32::MAX] {
+    for number in [0, 33, u32::MAX] {
         assert_eq!(Refusal::from_number(number), None);
     }
 }

@@ -1,6 +1,6 @@
 //! What a call answered, and how it is printed.
 
-use glintbasket::{Error, Line, Location, LookUpError, SaveCheck};
+use glintbasket::{Buffer, Error, Line, Location, LookUpError, SaveCheck, Walk};
 use std::fmt;
 
 /// What a call answered.
@@ -11,6 +11,7 @@ pub enum Answer {
     Filled(u64, Vec<u8>),
     LookedUp(Result<Location, LookUpError>),
     Shown(Line),
+    Walked(Walk),
     Part {
         kind: u16,
         flags: u8,
@@ -47,6 +48,9 @@ impl fmt::Display for Answer {
                 let (masked, pending) = (yes_or_no(line.masked), yes_or_no(line.pending));
                 write!(f, "ok number {} ", number(line))?;
                 write!(f, "masked {masked} pending {pending} tally {}", line.tally)
+            }
+            Answer::Walked(Walk { buffers, index }) => {
+                write!(f, "ok {} index {index} : {}", buffers.len(), List(buffers))
             }
             Answer::Part {
                 kind,
@@ -87,6 +91,23 @@ fn yes_or_no(flag: bool) -> &'static str {
     }
 }
 
+/// Buffers with a comma between them, and `-` where there are none.
+struct List<'b>(&'b [Buffer]);
+
+impl fmt::Display for List<'_> {
+    fn fmt(&self, f: &mut fmt::Formatter<'_>) -> fmt::Result {
+        if self.0.is_empty() {
+            return write!(f, "-");
+        }
+        for (place, buffer) in self.0.iter().enumerate() {
+            let comma = if place > 0 { ", " } else { "" };
+            let (address, length) = (buffer.address.0, buffer.length);
+            write!(f, "{comma}{address} length {length} flags {}", buffer.flags)?;
+        }
+        Ok(())
+    }
+}
+
 /// Bytes as pairs of hexadecimal digits with a space between them, and `-` where there are none.
 struct Pairs<'b>(&'b [u8]);
 
@@ -103,7 +124,7 @@ impl fmt::Display for Pairs<'_> {
 #[cfg(test)]
 mod tests {
     use super::*;
-    use glintbasket::{MemoryAddress, Refusal, Rights};
+    use glintbasket::{DeviceAddress, MemoryAddress, Refusal, Rights};
 
     #[test]
     fn successes_are_printed() {
@@ -156,6 +177,26 @@ mod tests {
         assert_eq!(Answer::Shown(line).to_string(), text);
         let text = "ok number -1 masked no pending no tally 0";
         assert_eq!(Answer::Shown(Line::DISABLED).to_string(), text);
+    }
+
+    #[test]
+    fn a_walk_has_its_index_and_every_buffer() {
+        let buffer = |address, length, flags| Buffer {
+            address: DeviceAddress(address),
+            length,
+            flags,
+        };
+        let walked = |buffers| {
+            let walk = Walk {
+                buffers,
+                index: 65535,
+            };
+            Answer::Walked(walk).to_string()
+        };
+        assert_eq!(walked(vec![]), "ok 0 index 65535 : -");
+        let text = "ok 2 index 65535 : 4096 length 16 flags 1, 0 length 4294967295 flags 65530";
+        let buffers = vec![buffer(4096, 16, 1), buffer(0, u32::MAX, 0xfffa)];
+        assert_eq!(walked(buffers), text);
     }
 
     #[test]

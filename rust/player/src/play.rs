@@ -3,8 +3,8 @@
 use crate::answer::Answer;
 use crate::session::{output_size, Call, Pattern, Session, Step};
 use glintbasket::{
-    check_save, marks_len, Bench, Card, DeviceAddress, Error, IrqIndex, Mapping, MemoryAddress,
-    Parts, Refusal, Rights, Target,
+    check_save, marks_len, Bench, Buffer, Card, DeviceAddress, Error, IrqIndex, Mapping,
+    MemoryAddress, Parts, Refusal, Rights, Target, Walk, BUFFER_NUMBERS, WALKED_MAX,
 };
 
 /// A bench's records and memory, each byte of which starts as the session's garbage says, and its marks.
@@ -92,12 +92,12 @@ impl Played<'_> {
     }
 }
 
-/// A byte at which a move was refused.
+/// A byte at which a move, or the walk of a queue, was refused.
 #[derive(Clone, Debug, PartialEq)]
 pub struct RefusedByte {
     pub line: usize,
     pub error: Error,
-    /// For a move of the card.
+    /// For a move of the card, or a walk.
     pub device: Option<DeviceAddress>,
     /// Unless no mapping held the device address.
     pub memory: Option<MemoryAddress>,
@@ -143,6 +143,7 @@ impl<'m> Player<'m> {
             Call::ShowLine { index, line } => bench
                 .show_line(IrqIndex(unlisted(*index)), unlisted(*line))
                 .map(Answer::Shown),
+            Call::WalkQueue { queue, last, room } => self.walk_queue(*queue, *last, *room),
             Call::CardRead(device, length) => {
                 let mut buffer = vec![self.garbage; *length];
                 bench.device_read(*device, &mut buffer)?;
@@ -212,18 +213,34 @@ impl<'m> Player<'m> {
         })
     }
 
-    /// Where a refused move met its first faulty byte.
+    fn walk_queue(&self, queue: u64, last: u16, room: Option<usize>) -> Result<Answer, Error> {
+        let stale = u64::from_ne_bytes([self.garbage; 8]);
+        let mut numbers = vec![stale; room.unwrap_or(WALKED_MAX)];
+        let walked = self
+            .bench
+            .walk_queue_into(unlisted(queue), last, &mut numbers)?;
+        numbers.truncate(BUFFER_NUMBERS * walked.buffers);
+        Ok(Answer::Walked(Walk {
+            buffers: Buffer::all(&numbers).collect(),
+            index: walked.index,
+        }))
+    }
+
+    /// Where a refused move or walk met its first faulty byte.
     fn refused_byte(&self, step: &Step, error: Error) -> Option<RefusedByte> {
         let of_a_byte = [Refusal::Unmapped, Refusal::NoRight, Refusal::Unwritten];
         if !of_a_byte.contains(&error.refusal) {
             return None;
         }
+        let of_card = |device| {
+            let location = self.bench.look_up(device).ok();
+            (Some(device), location.map(|l| l.address))
+        };
         let (device, memory) = match step.call {
             Call::CardRead(device, _) | Call::CardWrite(device, _) => {
-                let device = DeviceAddress(device.0 + error.place);
-                let location = self.bench.look_up(device).ok();
-                (Some(device), location.map(|l| l.address))
+                of_card(DeviceAddress(device.0 + error.place))
             }
+            Call::WalkQueue { .. } => of_card(DeviceAddress(error.place)),
             Call::HostLoad(memory, _) => (None, Some(MemoryAddress(memory.0 + error.place))),
             _ => return None,
         };
@@ -236,8 +253,8 @@ impl<'m> Player<'m> {
     }
 }
 
-/// The library takes 32 bits. No greater number is that of a request, an index or a line, and neither is the one that stands for all of
-/// them here.
+/// The library takes 32 bits. No greater number is that of a request, an index, a line or a queue, and neither is the one that stands for
+/// all of them here.
 fn unlisted(number: u64) -> u32 {
     u32::try_from(number).unwrap_or(u32::MAX)
 }

@@ -111,6 +111,18 @@ step 0 0301 00 00 0000000000000000 01000000 0f
 step 17 0301 00 00 0000000000000000 01000000 0f
 step 18 0301 00 00 0000000000000000 01000000 0f
 request 7 100 -
+request container map flags=3 memory=0x1000 device=0x10000 size=0x1000
+set-register 0x104 1 02 00*3 01 00*5 01 00*5 40 00 01 00*13
+host-store 0x1042 0100 0100
+host-store 0x1010 ff*8 10000000 0200
+walk-queue 1 0
+host-store 0x101e 0000
+walk-queue 1 0
+walk-queue 1 1
+walk-queue 1 0 room 2
+walk-queue 1 2
+walk-queue 0 0
+walk-queue 4294967296 0
 ";
 
 const EVERY_OUTCOME_PLAYED: &str = "\
@@ -143,6 +155,18 @@ const EVERY_OUTCOME_PLAYED: &str = "\
 28: end
 29: refused 18 Truncated at 18
 30: refused 2 NoSuchRequest at 0
+31: ok 0
+32: ok 0
+33: ok 0
+34: ok 0
+35: refused 16 Unwritten at 65566
+36: ok 0
+37: ok 1 index 1 : 18446744073709551615 length 16 flags 2
+38: ok 0 index 1 : -
+39: refused 27 NoSpace at 0
+40: refused 29 RingDistance at 0
+41: refused 28 QueueNotReady at 0
+42: refused 6 Index at 0
 ";
 
 #[test]
@@ -374,6 +398,27 @@ interrupt lines: none set up
 last refused byte: line 2, refused 14 Unmapped at 0: device address 0x5, in no mapping
 ";
     assert_run(&run(&["show", &session]), 0, expected, "");
+}
+
+#[test]
+fn show_tells_the_byte_at_which_a_walk_was_refused() {
+    let session = file(
+        "walk.session",
+        "memory 0x2000
+request container map flags=1 memory=0x1000 device=0x10000 size=0x1000
+set-register 0x104 0 02 00*3 01 00*5 01 00*5 40 00 01 00*13
+host-store 0x1042 0100 0000
+host-store 0x1000 00*14
+walk-queue 0 0 => refused 16 Unwritten at 65550
+walk-queue 0 9 => refused 29 RingDistance at 0
+",
+    );
+    let output = run(&["show", &session]);
+    let out = String::from_utf8(output.stdout).unwrap();
+    let told = "last refused byte: line 6, refused 16 Unwritten at 65550: \
+                device address 0x1000e, memory address 0x100e\n";
+    assert!(out.contains(told), "{out}");
+    assert_eq!(output.status.code(), Some(0));
 }
 
 /// Maps as many pages as there may be mappings, each apart from the next.

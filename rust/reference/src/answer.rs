@@ -32,6 +32,11 @@ pub enum Refusal {
     Unset = 25,
     ReadOnly = 26,
     NoSpace = 27,
+    QueueNotReady = 28,
+    RingDistance = 29,
+    DescriptorIndex = 30,
+    ChainLength = 31,
+    Indirect = 32,
 }
 
 /// A refusal and its place, which is 0 unless a rule states one (rule 2.2).
@@ -113,6 +118,11 @@ mod tests {
             (Refusal::Unset, 25),
             (Refusal::ReadOnly, 26),
             (Refusal::NoSpace, 27),
+            (Refusal::QueueNotReady, 28),
+            (Refusal::RingDistance, 29),
+            (Refusal::DescriptorIndex, 30),
+            (Refusal::ChainLength, 31),
+            (Refusal::Indirect, 32),
         ];
         for (refusal, number) in names {
             assert_eq!(refusal.number(), number, "{refusal:?}");

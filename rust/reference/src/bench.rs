@@ -277,6 +277,7 @@ mod tests {
     use crate::lines::{show_line, Line};
     use crate::moves::{card_read, card_write, forget, host_load, host_store, look_up};
     use crate::parts::{load_parts, save_parts};
+    use crate::queues::walk_queue;
     use crate::registers::{read_register, set_register};
     use crate::requests::request;
 
@@ -325,6 +326,7 @@ mod tests {
             show_line(&state, 9, 9).map(|_| 0),
             look_up(&state, device).map(|_| 0).map_err(|e| e.refused),
             card_read(&state, &memory, &marks, device, buffer),
+            walk_queue(&state, &memory, &marks, 9, 0, &mut []).map(|_| 0),
             card_write(&state, &mut memory, &mut marks, device, &[]),
             host_store(&state, &mut memory, &mut marks, address, &[9]),
             host_load(&state, &memory, &marks, address, buffer),

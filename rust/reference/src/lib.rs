@@ -10,7 +10,7 @@
 //! | [`answer`] | 2 |
 //! | [`requests`] | 3 |
 //! | [`lines`] | 3 and 4: interrupt lines |
-//! | [`moves`] | 4 |
+//! | [`moves`], [`queues`] | 4 |
 //! | [`registers`], [`parts`], [`check_save`] | 5 and 6 |
 //! | [`session`] | none: docs/session-format.md |
 
@@ -23,6 +23,7 @@ pub mod check_save;
 pub mod lines;
 pub mod moves;
 pub mod parts;
+pub mod queues;
 pub mod registers;
 pub mod requests;
 pub mod session;

@@ -132,6 +132,18 @@ fn card_places(
     Ok(places)
 }
 
+/// The bytes that a card read gives, once 1 was tried.
+pub fn card_bytes(
+    state: &State,
+    memory: &[u8],
+    marks: &[u8],
+    device: DeviceAddress,
+    length: usize,
+) -> Answer<Vec<u8>> {
+    let places = card_places(state, device, length, READ, Some(marks))?;
+    Ok(places.into_iter().map(|place| memory[place]).collect())
+}
+
 pub fn card_read(
     state: &State,
     memory: &[u8],
@@ -140,10 +152,8 @@ pub fn card_read(
     buffer: &mut [u8],
 ) -> Answer<u64> {
     state.check_bench(memory, marks)?;
-    let places = card_places(state, device, buffer.len(), READ, Some(marks))?;
-    for (offset, place) in places.into_iter().enumerate() {
-        buffer[offset] = memory[place];
-    }
+    let bytes = card_bytes(state, memory, marks, device, buffer.len())?;
+    buffer.copy_from_slice(&bytes);
     Ok(0)
 }
 

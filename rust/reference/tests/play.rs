@@ -49,6 +49,14 @@ request container unmap size=0x1000
 step 0 0301 00 00 00*8 01000000 07
 step 17 0301 00 00 00*8 01000000 07
 step 0 ff05 01 00 ff*8 00*4
+request container map flags=3 size=0x1000
+set-register 0x104 1 02 00*3 01 00*11 40 00*15
+host-store 66 0100 0100
+host-store 16 ff*8 10000000 0200 0000
+walk-queue 1 0
+walk-queue 1 1
+walk-queue 1 0 room 2
+walk-queue 0 0
 power-on
 ";
 
@@ -74,6 +82,14 @@ const EVERY_OUTCOME_PRINTED: &str = "\
 18: end
 19: part 0x5ff flags 1 selector 18446744073709551615 next 16 : -
 20: ok 0
+21: ok 0
+22: ok 0
+23: ok 0
+24: ok 1 index 1 : 18446744073709551615 length 16 flags 2
+25: ok 0 index 1 : -
+26: refused 27 NoSpace at 0
+27: refused 28 QueueNotReady at 0
+28: ok 0
 ";
 
 #[test]

@@ -1,8 +1,9 @@
 //! One call on the emulator.
 
-use glintbasket::raw::{self, Found, Outcome, PartStep, ShownLine};
+use glintbasket::raw::{self, Found, Outcome, PartStep, ShownLine, Walked};
 use glintbasket::{DeviceAddress, Mapping, MemoryAddress, State};
 
+use super::on_numbers;
 use crate::call::{Answer, Call};
 
 /// A call on the emulator, which changes state and records in place.
@@ -24,6 +25,12 @@ pub fn emulate(
         }
         Call::ShowLine { index, line } => {
             return shown(&raw::show_line(state, records, index, line))
+        }
+        Call::WalkQueue { queue, last } => {
+            return on_numbers(buffer, |numbers| {
+                let walked = raw::walk_queue(state, records, memory, marks, queue, last, numbers);
+                queue_walked(&walked)
+            })
         }
         Call::CardRead { device } => {
             let device = DeviceAddress(device);
@@ -112,6 +119,19 @@ fn shown(shown: &ShownLine) -> Answer {
     assert_eq!((shown.number, shown.tally), (0, 0), "{shown:?}");
     assert!(!masked && !pending, "{shown:?}");
     answer
+}
+
+fn queue_walked(walked: &Walked) -> Answer {
+    match told(walked.outcome) {
+        Answer::Done(buffers) => Answer::Walked {
+            buffers,
+            index: walked.index.into(),
+        },
+        refused => {
+            assert_eq!(walked.index, 0, "{walked:?}");
+            refused
+        }
+    }
 }
 
 /// The step at a place, of which every field is judged: the second program knows kind, flags, selector and next.

@@ -3,8 +3,9 @@
 use glint_reference::answer::Refused;
 use glint_reference::bench::{self, DeviceAddress, MemoryAddress};
 use glint_reference::moves::{self, NotFound};
-use glint_reference::{lines, parts, registers, requests};
+use glint_reference::{lines, parts, queues, registers, requests};
 
+use super::on_numbers;
 use crate::call::{Answer, Call};
 
 /// A call on the second program with the first `records` of the state's, which changes them and the
@@ -38,6 +39,18 @@ fn with_all_records(
         }
         Call::LookUp { device } => return look_up(state, DeviceAddress(device)),
         Call::ShowLine { index, line } => return show_line(state, index.into(), line.into()),
+        Call::WalkQueue { queue, last } => {
+            return on_numbers(buffer, |numbers| {
+                let (queue, last) = (u64::from(queue), u64::from(last));
+                match queues::walk_queue(state, memory, marks, queue, last, numbers) {
+                    Ok(walked) => Answer::Walked {
+                        buffers: walked.buffers,
+                        index: walked.index,
+                    },
+                    Err(refused) => refusal(refused),
+                }
+            })
+        }
         Call::CardRead { device } => {
             moves::card_read(state, memory, marks, DeviceAddress(device), buffer)
         }

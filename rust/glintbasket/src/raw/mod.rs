@@ -23,16 +23,16 @@
 //! ```
 
 // This is the only module with `unsafe`. Why the calls are safe: no function of the library asks anything of its arguments but what
-// Rust's types say. A slice gives a pointer that is not null and as many bytes or records as its length says, also where it has none; what
-// is lent as `&mut` overlaps nothing else. All other values may be any. The library keeps no pointer, and writes to nothing that is lent as
-// `&`.
+// Rust's types say. A slice gives a pointer that is not null and as many bytes, records or numbers as its length says, also where it has
+// none; what is lent as `&mut` overlaps nothing else. All other values may be any. The library keeps no pointer, and writes to nothing that
+// is lent as `&`.
 
 mod check_save;
 mod structs;
 
 pub use check_save::{check_save, IS_SAVE};
 pub use structs::{
-    Found, Line, Mapping, Outcome, PartStep, Register, Registers, ShownLine, State, LINES,
+    Found, Line, Mapping, Outcome, PartStep, Register, Registers, ShownLine, State, Walked, LINES,
     REGISTERS, SLOTS,
 };
 
@@ -109,6 +109,19 @@ extern "C" {
         buffer: *const u8,
         buffer_length: usize,
     ) -> Outcome;
+    fn glint_walk_queue(
+        state: *const State,
+        records: *const Mapping,
+        records_length: usize,
+        memory: *const u8,
+        memory_length: usize,
+        marks: *const u8,
+        marks_length: usize,
+        queue: u32,
+        last: u16,
+        numbers: *mut u64,
+        numbers_length: usize,
+    ) -> Walked;
     fn glint_host_write(
         state: *const State,
         records: *const Mapping,
@@ -301,6 +314,35 @@ pub fn device_write(
             device,
             buffer.as_ptr(),
             buffer.len(),
+        )
+    }
+}
+
+/// Walks a queue into lent numbers, three for each buffer: see [`Bench::walk_queue_into`](crate::Bench::walk_queue_into).
+#[inline]
+pub fn walk_queue(
+    state: &State,
+    records: &[Mapping],
+    memory: &[u8],
+    marks: &[u8],
+    queue: u32,
+    last: u16,
+    numbers: &mut [u64],
+) -> Walked {
+    // SAFETY: the state and the slices are valid for their lengths, and Rust keeps `numbers` apart.
+    unsafe {
+        glint_walk_queue(
+            state,
+            records.as_ptr(),
+            records.len(),
+            memory.as_ptr(),
+            memory.len(),
+            marks.as_ptr(),
+            marks.len(),
+            queue,
+            last,
+            numbers.as_mut_ptr(),
+            numbers.len(),
         )
     }
 }

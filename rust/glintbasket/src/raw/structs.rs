@@ -147,6 +147,16 @@ pub struct ShownLine {
     pub pending: bool,
 }
 
+/// The answer of a walk of a queue. Where it is refused, the index is 0.
+#[repr(C)]
+#[derive(Clone, Copy, Debug, PartialEq, Eq)]
+pub struct Walked {
+    /// The answer but for the index; the result is the number of buffers.
+    pub outcome: Outcome,
+    /// The ring's index.
+    pub index: u16,
+}
+
 /// A step's answer: a refusal; the end of the stream; or a part.
 ///
 /// What an answer has no use for is 0.
@@ -234,5 +244,7 @@ const _: () = {
     assert!(offset_of!(ShownLine, tally) == 28);
     assert!(offset_of!(ShownLine, masked) == 32);
     assert!(offset_of!(ShownLine, pending) == 33);
+    assert!(size_of::<Walked>() == 32);
+    assert!(offset_of!(Walked, index) == 24);
     assert!(size_of::<PartStep>() == 56);
 };

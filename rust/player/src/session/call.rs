@@ -20,6 +20,12 @@ pub enum Call {
         index: u64,
         line: u64,
     },
+    /// Without room, there is enough.
+    WalkQueue {
+        queue: u64,
+        last: u16,
+        room: Option<usize>,
+    },
     CardRead(DeviceAddress, usize),
     CardWrite(DeviceAddress, Pattern),
     HostStore(MemoryAddress, Pattern),
@@ -44,11 +50,12 @@ pub enum Call {
 }
 
 /// The first words of calls, and their forms.
-const FORMS: [(&str, &str); 17] = [
+const FORMS: [(&str, &str); 18] = [
     ("power-on", "`power-on [card CARD]`"),
     ("request", "`request TARGET NUMBER BYTES`"),
     ("look-up", "`look-up DEVICE`"),
     ("show-line", "`show-line INDEX LINE`"),
+    ("walk-queue", "`walk-queue QUEUE LAST [room N]`"),
     ("card-read", "`card-read DEVICE LENGTH`"),
     ("card-write", "`card-write DEVICE BYTES`"),
     ("host-store", "`host-store MEMORY BYTES`"),
@@ -89,6 +96,16 @@ fn arguments(name: &str, words: &mut Words) -> Option<Call> {
             Some(Call::ShowLine {
                 index: index?,
                 line: line?,
+            })
+        }
+        "walk-queue" => {
+            let queue = words.number(&Number::any("QUEUE"));
+            let last = words.number(&Number::up_to("LAST", u64::from(u16::MAX)));
+            let room = super::named(words, "room", &Number::up_to("N", BYTES_MAX));
+            Some(Call::WalkQueue {
+                queue: queue?,
+                last: last? as u16,
+                room: room.map(|count| count as usize),
             })
         }
         "card-read" => {

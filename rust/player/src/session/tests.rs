@@ -210,6 +210,10 @@ fn every_call_is_read() {
     let (device, memory) = (DeviceAddress(1), MemoryAddress(1));
     assert_eq!(call("power-on"), Call::PowerOn(Card::Features64));
     assert_eq!(call("look-up 1"), Call::LookUp(device));
+    let walk = |queue, last, room| Call::WalkQueue { queue, last, room };
+    assert_eq!(call("walk-queue 0 0xffff"), walk(0, 65535, None));
+    assert_eq!(call("walk-queue 4294967296 1"), walk(1 << 32, 1, None));
+    assert_eq!(call("walk-queue 3 1 room 6"), walk(3, 1, Some(6)));
     assert_eq!(call("card-read 1 2"), Call::CardRead(device, 2));
     assert!(matches!(call("card-write 1 00"), Call::CardWrite(d, _) if d == device));
     assert!(matches!(call("host-store 1 00"), Call::HostStore(m, _) if m == memory));
@@ -257,6 +261,11 @@ fn words_are_missing_or_too_many() {
     assert_eq!(columns("request"), [8]);
     assert_eq!(columns("request container"), [18]);
     assert_eq!(columns("request container 100"), [22]);
+    assert_eq!(columns("walk-queue"), [11]);
+    assert_eq!(columns("walk-queue 0"), [13]);
+    assert_eq!(columns("walk-queue 0 0 room"), [20]);
+    assert_eq!(columns("walk-queue 0 65536 6"), [14, 20]);
+    assert_eq!(columns("walk-queue 0 0 room 6 6"), [23]);
     let (column, message) = fault("card-read 1 2 3 4");
     assert_eq!(column, 15);
     assert!(message.contains("card-read DEVICE LENGTH"));
@@ -265,6 +274,7 @@ fn words_are_missing_or_too_many() {
 #[test]
 fn buffers_have_a_limit() {
     assert_eq!(columns("card-read 0 1048577"), [13]);
+    assert_eq!(columns("walk-queue 0 0 room 1048577"), [21]);
     assert_eq!(columns("host-load 0 1048577"), [13]);
     assert_eq!(columns("read-register 1 0 1048577"), [19]);
     assert_eq!(columns("save-parts 1048577"), [12]);

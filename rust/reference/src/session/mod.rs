@@ -50,6 +50,12 @@ pub enum Call {
         index: u64,
         line: u64,
     },
+    /// Without room, there is enough.
+    WalkQueue {
+        queue: u64,
+        last: u64,
+        room: Option<usize>,
+    },
     CardRead {
         device: u64,
         length: usize,

@@ -13,6 +13,7 @@ use crate::moves::{
     card_read, card_write, forget, host_load, host_store, look_up, Found, NotFound,
 };
 use crate::parts::{load_parts, save_parts, step};
+use crate::queues::{walk_queue, Walked, LONGEST, NUMBERS};
 use crate::registers::{read_register, set_register};
 use crate::requests::{listed, request};
 
@@ -68,6 +69,7 @@ impl Player {
             } => self.request(*target, *number, buffer),
             Call::LookUp { device } => looked_up(look_up(&self.state, DeviceAddress(*device))),
             Call::ShowLine { index, line } => line_shown(show_line(&self.state, *index, *line)),
+            Call::WalkQueue { queue, last, room } => self.walk_queue(*queue, *last, *room),
             Call::CardRead { device, length } => {
                 let device = DeviceAddress(*device);
                 let mut buffer = self.buffer(*length);
@@ -132,6 +134,19 @@ impl Player {
         }
     }
 
+    fn walk_queue(&self, queue: u64, last: u64, room: Option<usize>) -> String {
+        let before = u64::from_le_bytes([self.garbage; 8]);
+        let mut numbers = vec![before; room.unwrap_or(LONGEST)];
+        let (memory, marks) = (&self.memory, &self.marks);
+        match walk_queue(&self.state, memory, marks, queue, last, &mut numbers) {
+            Ok(Walked { buffers, index }) => {
+                let found = listed_buffers(&numbers[..NUMBERS * buffers as usize]);
+                format!("ok {buffers} index {index} : {found}")
+            }
+            Err(refused) => refused.to_string(),
+        }
+    }
+
     fn request(&mut self, target: u64, request_number: u64, given: &[Option<u8>]) -> String {
         let mut buffer: Vec<u8> = given
             .iter()
@@ -185,6 +200,18 @@ fn yes_or_no(flag: bool) -> &'static str {
     } else {
         "no"
     }
+}
+
+/// Each buffer's address, length and flags, or `-`.
+fn listed_buffers(numbers: &[u64]) -> String {
+    if numbers.is_empty() {
+        return "-".to_string();
+    }
+    let buffers: Vec<String> = numbers
+        .chunks(NUMBERS)
+        .map(|of| format!("{} length {} flags {}", of[0], of[1], of[2]))
+        .collect();
+    buffers.join(", ")
 }
 
 fn walker_step(place: u64, stream: &[u8]) -> String {

@@ -13,9 +13,9 @@ const BUFFER_LIMIT: u64 = 1 << 20;
 const MEMORY_LIMIT: u64 = 1 << 30;
 const DEFAULT_GARBAGE: u8 = 0xa5;
 
-const CALLS: &str = "power-on, request, look-up, show-line, card-read, card-write, host-store, \
-                     host-load, forget, set-register, read-register, load-parts, save-parts, \
-                     stop, start, step, check-save";
+const CALLS: &str = "power-on, request, look-up, show-line, walk-queue, card-read, card-write, \
+                     host-store, host-load, forget, set-register, read-register, load-parts, \
+                     save-parts, stop, start, step, check-save";
 
 /// Reads a file's bytes.
 pub fn read(file: &[u8]) -> Result<Session, Vec<Fault>> {
@@ -285,6 +285,11 @@ impl Arguments {
         DEFAULT_RECORDS as u64
     }
 
+    /// `[room N]`.
+    fn room(&mut self) -> Option<usize> {
+        self.takes("room").then(|| self.length("N"))
+    }
+
     /// BYTES in which none may be stale, not even none of them (`?*0`).
     fn bytes(&mut self) -> Vec<u8> {
         let left = self.taken.min(self.words.len());
@@ -339,6 +344,11 @@ impl Arguments {
             "show-line" => Call::ShowLine {
                 index: self.number("INDEX"),
                 line: self.number("LINE"),
+            },
+            "walk-queue" => Call::WalkQueue {
+                queue: self.number("QUEUE"),
+                last: self.number_up_to("LAST", 65_535),
+                room: self.room(),
             },
             "card-read" => Call::CardRead {
                 device: self.number("DEVICE"),
@@ -737,6 +747,16 @@ mod tests {
     }
 
     #[test]
+    fn a_walk_may_name_its_room() {
+        let walk = |queue, last, room| Call::WalkQueue { queue, last, room };
+        assert_eq!(call("walk-queue 0 0xffff"), walk(0, 65_535, None));
+        assert_eq!(call("walk-queue 4294967296 1"), walk(1 << 32, 1, None));
+        assert_eq!(call("walk-queue 3 1 room 0"), walk(3, 1, Some(0)));
+        let most = walk(3, 1, Some(1 << 20));
+        assert_eq!(call("walk-queue 3 1 room 1048576"), most);
+    }
+
+    #[test]
     fn faults_of_requests_by_name() {
         let cases = [
             ("request card 107 -", 9),
@@ -756,6 +776,12 @@ mod tests {
             ("request device set-irqs size=1", 25),
             ("show-line 1", 12),
             ("show-line 1 0 0", 15),
+            ("walk-queue 0", 13),
+            ("walk-queue 0 65536", 14),
+            ("walk-queue 0 0 room", 20),
+            ("walk-queue 0 0 room 1048577", 21),
+            ("walk-queue 0 0 6", 16),
+            ("walk-queue 0 0 room 6 6", 23),
             ("request device", 15),
             ("request", 8),
             ("set-register", 13),
