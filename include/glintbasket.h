@@ -644,6 +644,20 @@ static inline bool glint_bench_is_written(const glint_bench *bench, glint_memory
     return bench->marks[address.value / 8] >> (address.value % 8) & 1;
 }
 
+/*
+ * The bytes that are mapped: the sizes of the mappings held. They are the sizes of all maps that were accepted since the last fresh
+ * start, less those that unmaps reported.
+ */
+static inline uint64_t glint_bench_mapped_bytes(const glint_bench *bench)
+{
+    uint64_t sum = 0;
+    if (glint_bench_has_null_records(bench))
+        return 0;
+    for (size_t i = 0; i < bench->state.count && i < bench->records_length; i++)
+        sum += bench->records[i].size;
+    return sum;
+}
+
 /* ---- requests */
 
 static inline glint_outcome glint_bench_request(glint_bench *bench, uint32_t target, uint32_t number, void *buffer, size_t length)

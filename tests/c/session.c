@@ -502,9 +502,11 @@ static void unmap_ranges(void)
     fresh_bench();
     CHECK_DONE(map(0, 0, 2 * PAGE, GLINT_READ), 0);
     CHECK_DONE(map(0, 2 * PAGE, PAGE, GLINT_READ), 0);
+    CHECK(glint_bench_mapped_bytes(&bench) == 3 * PAGE);
     CHECK_REFUSED(unmap(PAGE, 2 * PAGE, &removed), GLINT_CUTS, 0);
     CHECK(removed == 2 * PAGE); // the size field as it was given
     CHECK(bench.state.count == 2);
+    CHECK(glint_bench_mapped_bytes(&bench) == 3 * PAGE);
     CHECK_REFUSED(unmap(1, 0, &removed), GLINT_EMPTY, 0);
     CHECK_DONE(unmap(0, 3 * PAGE, &removed), 0);
     CHECK(removed == 3 * PAGE);
@@ -516,8 +518,12 @@ static void unmap_ranges(void)
     removed = 1;
     CHECK_REFUSED(glint_bench_unmap(&bench, glint_device(PAGE + 1), PAGE, &removed), GLINT_UNALIGNED, 0);
     CHECK(removed == 1);
+    CHECK(glint_bench_mapped_bytes(&bench) == PAGE);
     CHECK_DONE(glint_bench_unmap(&bench, glint_device(PAGE), PAGE, &removed), 0);
     CHECK(removed == PAGE);
+    CHECK(glint_bench_mapped_bytes(&bench) == 0);
+    bench.state.count = SIZE_MAX; // no record past those that are lent is looked at
+    CHECK(glint_bench_mapped_bytes(&bench) >= 3 * PAGE);
 }
 
 // Numbers that are no IOMMU type; in those with a high byte, the low one is.

@@ -39,6 +39,7 @@ use Rattle.emulator.specs.Requests.{Request, getApiVersion, checkExtension, set
 use Rattle.emulator.specs.Calls.{Call, powerOn, request, lookUp, deviceRead, deviceWrite, hostWrite, hostRead, invalidate, setRegister, readRegister, showLine, walkQueue, loadParts, saveParts, stop, start, given, input, queueValue, walkOf, ownChecks, checks, walking, effect, probesOf, outcome}
 use Rattle.assurance.specs.Overwrite.{overwrite, mask}
 use Rattle.assurance.specs.Runs.{written}
+use Rattle.assurance.proofs.Entries.{every, entry-by}
 use Rattle.assurance.proofs.Overwrite.{length-overwrite, length-mask, mask-all, getD-kept, part-kept, keeps, keeps-at, field-over, field-kept}
 
 -- the emulator as a call may look at it: no unwritten byte is seen
@@ -83,12 +84,8 @@ readsKept keep resetDevice = true
 unfoldable entryReads : List ℕ → Entry → Bool
 entryReads buf r = pick (r .argsz) (keeps (inputOf (some r) buf) 0 4) true and readsKept (inputOf (some r) buf) (r .request)
 
-unfoldable allRead : List ℕ → List Entry → Bool
-allRead buf [] = true
-allRead buf (r ∷ rs) = entryReads buf r and allRead buf rs
-
-all-read : (buf : List ℕ) → allRead buf requests ≡ true
-unfolding allRead entryReads readsKept keeps inputOf inFields pick _and_ _or_
+all-read : (buf : List ℕ) → every (entryReads buf) requests ≡ true
+unfolding every entryReads readsKept keeps inputOf inFields pick _and_ _or_
 all-read buf = refl
 
 module _ (keep : ℕ → Bool) (buf : List ℕ) (e : Emulator) where
@@ -149,19 +146,6 @@ module _ (keep : ℕ → Bool) (buf : List ℕ) (e : Emulator) where
   argsz-blind false size h = refl
   argsz-blind true size h = rw (field-kept keep buf 0 4 h, length-mask keep buf)
 
--- what holds of no entry, and of each that reads its input fields alone, holds of the entry that a target and a number have
-entry-by : (buf : List ℕ) (P : Option Entry → Type 0) → P none → ((r : Entry) → entryReads buf r ≡ true → P (some r)) → (rs : List Entry) → allRead buf rs ≡ true
-    → (target number : ℕ) → P (entryIn rs target number)
-unfolding entryIn allRead pick
-entry-by buf P p h [] all target number = p
-entry-by buf P p h (r ∷ rs) all target number =
-    let a = and-true _ _ all in
-    go (eqb (r .target) target and eqb (r .number) number) (h r (a .0)) (entry-by buf P p h rs (a .1) target number)
-  where
-    go : (t : Bool) → P (some r) → P (entryIn rs target number) → P (pick t (some r) (entryIn rs target number))
-    go true here rest = here
-    go false here rest = rest
-
 -- data are input
 data-input : (buf : List ℕ) (r : Entry) (i : ℕ) → dataOf (r .request) buf i ≡ true → inputOf (some r) buf i ≡ true
 unfolding inputOf
@@ -178,7 +162,7 @@ record RequestBlind (buf : List ℕ) (e : Emulator) (o : Option Entry) : Type 0 
 
 request-blind : (buf : List ℕ) (e : Emulator) (target number : ℕ) → RequestBlind buf e (identify target number)
 unfolding identify sizeChecks requestChecks requestEffect seen entryReads
-request-blind buf e = entry-by buf (RequestBlind buf e) absent listed requests (all-read buf)
+request-blind buf e = entry-by (entryReads buf) (RequestBlind buf e) absent listed requests (all-read buf)
   where
     absent : RequestBlind buf e none
     absent = record { its-checks = refl; its-effect = refl }
@@ -223,7 +207,7 @@ entry-stable w buf r h = ap {B = ℕ → Bool} (λ (f : ℕ → Bool) (i : ℕ).
 
 request-stable : (w : ℕ → ℕ) (buf : List ℕ) (target number : ℕ) → inputOf (identify target number) (overwrite (inputOf (identify target number) buf) w buf) ≡ inputOf (identify target number) buf
 unfolding identify inputOf
-request-stable w buf = entry-by buf (λ o. inputOf o (overwrite (inputOf o buf) w buf) ≡ inputOf o buf) refl (entry-stable w buf) requests (all-read buf)
+request-stable w buf = entry-by (entryReads buf) (λ o. inputOf o (overwrite (inputOf o buf) w buf) ≡ inputOf o buf) refl (entry-stable w buf) requests (all-read buf)
 
 -- what others write leaves it as it is
 pub input-stable : (c : Call) (w : ℕ → ℕ) (buf : List ℕ) → input c (overwrite (input c buf) w buf) ≡ input c buf

@@ -7,6 +7,7 @@ use Rattle.assurance.proofs.SaveLoad.{save-load}
 use Rattle.assurance.proofs.Starred.{starred}
 use Rattle.assurance.proofs.Demand3.{demand3}
 use Rattle.assurance.proofs.Session.{sessions}
+use Rattle.assurance.proofs.Account.{mapped-bytes}
 use Rattle.assurance.proofs.Packed.{equivalence}
 use Rattle.assurance.proofs.PastEnd.{pastEnd}
 
@@ -20,6 +21,7 @@ demands =
       remains = remains;
       demand3 = demand3;
       sessions = sessions;
+      mappedBytes = mapped-bytes;
       equivalence = equivalence;
       pastEnd = pastEnd;
     }

@@ -241,7 +241,7 @@ owed start l e buf lent p h ok = tt
 -- ---- runs
 
 -- the call is what it is on its input bytes alone
-lent-outcome : (w : Others) (q : Ask) (e : Emulator) → outcome (q .call) (lentTo w q) e ≡ outcome (q .call) (inputBytes q) e
+pub lent-outcome : (w : Others) (q : Ask) (e : Emulator) → outcome (q .call) (lentTo w q) e ≡ outcome (q .call) (inputBytes q) e
 unfolding inputBytes mask
 lent-outcome w q e =
     sym (blind (q .call) (lentTo w q) e)

@@ -29,7 +29,7 @@ shown-eq : {r t : Answer Result} {b c : List ℕ} {e f : Emulator} → r ≡ t �
     → _≡_ {A = Shown} (record { answer = r; buffer = b; left = e }) (record { answer = t; buffer = c; left = f })
 shown-eq p q r = λ i. record { answer = p i; buffer = q i; left = r i }
 
-is-run : (s : State) (left : List Mapping) (m : Memory) (qs : List Ask) (w : ℕ → Others) (xs : List Shown) → Session s left m qs w xs → xs ≡ map shown (run (emulatorOf s left m) qs w)
+pub is-run : (s : State) (left : List Mapping) (m : Memory) (qs : List Ask) (w : ℕ → Others) (xs : List Shown) → Session s left m qs w xs → xs ≡ map shown (run (emulatorOf s left m) qs w)
 unfolding run shown
 is-run s left m [] w [] none = refl
 is-run s left m (q ∷ qs) w (x ∷ xs) (more {rs} l h rest) =

@@ -12,6 +12,7 @@ use Rattle.assurance.specs.SaveLoad.{SaveLoad}
 use Rattle.assurance.specs.Starred.{Starred}
 use Rattle.assurance.specs.Demand3.{Demand3}
 use Rattle.assurance.specs.Session.{Sessions}
+use Rattle.assurance.specs.Account.{MappedBytes}
 use Rattle.assurance.specs.Packed.{Equivalence, PastEnd}
 
 pub record Demands : Type 0 where
@@ -31,6 +32,8 @@ pub record Demands : Type 0 where
   pub demand3 : Demand3
   -- and so do sessions of the code, in which each call meets its contract.
   pub sessions : Sessions
+  -- From a fresh start on, the sizes of accepted maps less those that accepted unmaps reported are the sizes that are held.
+  pub mappedBytes : MappedBytes
   -- Packed marks. Each call does on them what it does on wide marks, one to a byte;
   pub equivalence : Equivalence
   -- and keeps every bit past the end of memory.

@@ -69,6 +69,17 @@ without-total test (m ∷ ms) = go (test m) (without-total test ms)
     go true ih = unfold pick in omega arith
     go false ih = unfold pick in omega arith
 
+-- one more is held
+pub insert-total : (m : Mapping) (ms : List Mapping) → totalSize (λ m. true) (insert m ms) ≡ m .size + totalSize (λ m. true) ms
+unfolding insert totalSize pick
+insert-total m [] = refl
+insert-total m (x ∷ xs) = go (ltb (m .device .0) (x .device .0)) (insert-total m xs)
+  where
+    go : (s : Bool) → totalSize (λ m. true) (insert m xs) ≡ m .size + totalSize (λ m. true) xs
+        → totalSize (λ m. true) (pick s (m ∷ x ∷ xs) (x ∷ insert m xs)) ≡ m .size + (x .size + totalSize (λ m. true) xs)
+    go true ih = refl
+    go false ih = omega (arith, ih)
+
 -- ---- a range and a mapping that share no device address
 
 pub apart-facts : (d : DeviceAddress) (n : ℕ) (m : Mapping) → touches d n m ≡ false → d .0 < end m → d .0 + n ≤ m .device .0

@@ -291,7 +291,6 @@ impl fmt::Display for Shown<'_> {
 
 #[cfg(test)]
 mod tests {
-    use super::*;
     use crate::interrupts::{BOOL, EVENT, NONE, SET_IRQS, TRIGGER};
 
     /// Rule 3.27: as many data as are read, whatever argsz says, and none where there are no data.

@@ -3,6 +3,7 @@
 
 #![forbid(unsafe_code)]
 
+mod account;
 pub mod call;
 pub mod damage;
 pub mod events;

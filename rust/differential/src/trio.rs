@@ -5,6 +5,7 @@ use std::panic::{catch_unwind, AssertUnwindSafe};
 use glint_reference::bench::{self, is_written, mark, mark_bytes};
 use glintbasket::{Mapping, State};
 
+use crate::account::Account;
 use crate::call::{Answer, Call, Kept, Lent, Made, Step};
 use crate::meaning::{first_other, mapping, meaning, means, value_size};
 use crate::programs::{emulate, refer};
@@ -51,6 +52,8 @@ pub struct Trio {
     pub state: bench::State,
     memory: Vec<u8>,
     marks: Vec<u8>,
+    /// The emulator's mapped bytes by its calls, from an accepted fresh start on.
+    account: Option<Account>,
     /// Whether the records are others than at the last call.
     pub exchanged: bool,
     /// What the twin's stale bytes differ by.
@@ -88,6 +91,7 @@ impl Trio {
                 memory,
                 marks,
             },
+            account: None,
             exchanged: false,
             other: random.from(1, 255) as u8,
             tamper,
@@ -165,6 +169,9 @@ impl Trio {
                 Ok(None)
             }
             Step::Exchange { length, seed } => {
+                if *length < self.state.mappings().len() {
+                    self.account = None;
+                }
                 self.state
                     .records
                     .resize(*length, bench::Mapping::filled(0));
@@ -176,6 +183,7 @@ impl Trio {
                 Ok(None)
             }
             Step::Install(kept) => {
+                self.account = None;
                 self.state = meaning(kept);
                 self.emulator.kept = (**kept).clone();
                 self.twin.kept = (**kept).clone();
@@ -326,6 +334,13 @@ impl Trio {
         })?;
 
         let started = matches!(call, Call::FreshStart { .. }) && !refused;
+        if started {
+            self.account = Some(Account::default());
+        } else if made.given.is_none() && !refused {
+            if let Some(account) = &mut self.account {
+                account.enter(call, &made.buffer, &buffer);
+            }
+        }
         if let (Some(state), Some(kept), Some(twin), true) =
             (other_state, given, twin_given, started)
         {
@@ -333,6 +348,10 @@ impl Trio {
             self.emulator.kept = kept;
             self.twin.kept = twin;
         }
+        let held = self.emulator.kept.mappings();
+        check(self.account.is_none_or(|a| a.balances(held)), || {
+            format!("{:?} is not what is held: {held:x?}", self.account)
+        })?;
         Ok(answer)
     }
 

@@ -152,6 +152,14 @@ impl<'m> Bench<'m> {
         &self.records[..self.state.count.min(self.records.len())]
     }
 
+    /// The bytes that are mapped: the sizes of the [`mappings`](Bench::mappings). They are the sizes of all maps that were
+    /// accepted since the last fresh start, less those that unmaps reported. A sum that 64 bits do not hold, which only a
+    /// state that is not sound can have, is the greatest number.
+    pub fn mapped_bytes(&self) -> u64 {
+        let sizes = self.mappings().iter().map(|mapping| mapping.size);
+        sizes.fold(0, u64::saturating_add)
+    }
+
     /// Whether the device runs.
     pub fn is_running(&self) -> bool {
         self.state.is_running()

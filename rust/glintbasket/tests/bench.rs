@@ -228,6 +228,33 @@ fn more_than_4096_records_are_refused() {
     assert!(records.iter().all(|record| *record == STALE));
 }
 
+/// Rule 8.16, under either type: what maps asked for, less what unmaps reported.
+#[test]
+fn mapped_bytes_are_those_mapped_less_those_unmapped() {
+    for iommu_type in [IommuType::Type1, IommuType::Type1v2] {
+        let mut bench = Bench::with_memory(vec![0; 8 * PAGE as usize]).unwrap();
+        bench.set_iommu(iommu_type).unwrap();
+        let (mut mapped, mut unmapped) = (0, 0);
+        for (device, pages) in [(0, 2), (4, 1), (0, 1), (8, 3)] {
+            let size = pages * PAGE;
+            let done = bench.map(
+                MemoryAddress(0),
+                DeviceAddress(device * PAGE),
+                size,
+                Rights::READ,
+            );
+            mapped += done.map_or(0, |()| size);
+            assert_eq!(bench.mapped_bytes(), mapped);
+        }
+        for (device, pages) in [(1, 4), (4, 5), (8, 3), (0, 16), (0, 16)] {
+            let done = bench.unmap(DeviceAddress(device * PAGE), pages * PAGE);
+            unmapped += done.unwrap_or(0);
+            assert_eq!(bench.mapped_bytes(), mapped - unmapped);
+        }
+        assert_eq!((mapped, bench.mapped_bytes()), (6 * PAGE, 0));
+    }
+}
+
 /// Rule 1.17: without the second and third of four, an unmap leaves the first, the fourth, the third and the fourth.
 #[test]
 fn records_past_the_count_keep_what_they_held() {

@@ -92,7 +92,8 @@ fn print_mappings(out: &mut impl Write, mappings: &[Mapping]) -> io::Result<()> 
     if mappings.is_empty() {
         return writeln!(out, "mappings: none");
     }
-    writeln!(out, "mappings: {}", mappings.len())?;
+    let bytes: u128 = mappings.iter().map(|m| u128::from(m.size)).sum();
+    writeln!(out, "mappings: {}, {bytes} bytes", mappings.len())?;
     for (number, text) in mapping_lines(mappings) {
         writeln!(out, "  {number:>2}  {text}")?;
     }

@@ -323,7 +323,7 @@ memory: 18432 bytes, pages of 4096 bytes: 5
   (unwritten: never written, or forgotten since)
 
 container: Type1v2 (3)
-mappings: 2
+mappings: 2, 12288 bytes
    1  device 0x10000..0x11fff shows memory 0x1000..0x2fff: read
    2  device 0x20000..0x20fff shows memory 0x2000..0x2fff: read, write
 interrupt lines: none set up
