@@ -19,9 +19,9 @@
  *   1. A pointer leads to as many bytes, records or numbers as its length says, which may be read or, where the parameter is not const,
  *      written; of records, numbers and states it is aligned as C asks. The functions of the first half take no null pointer, also where
  *      the length is 0; those of the second half take one for length 0, and refuse one with a length above 0 (GLINT_NULL_POINTER).
- *   2. Records, memory, marks, the buffer or array of one call and a struct that a pointer leads to do not overlap.
+ *   2. Records, memory, marks, the buffers or array of one call and a struct that a pointer leads to do not overlap.
  *   3. A bench, a state and what is lent with it are used by one thread at a time.
- * All else may be any: every byte of a state and of a record, every number, length and order of calls has an answer.
+ * All else may be any: every byte of a state, of a record and of a file, every number, length and order of calls has an answer.
  */
 #ifndef GLINTBASKET_H
 #define GLINTBASKET_H
@@ -52,6 +52,9 @@ extern "C" {
 #define GLINT_QUEUE_MAX 256u                      /* descriptors of a queue */
 #define GLINT_BUFFER_NUMBERS 3u                   /* numbers that a walk of a queue writes for each buffer: address, length, flags */
 #define GLINT_WALKED_MAX (GLINT_BUFFER_NUMBERS * GLINT_QUEUE_MAX * GLINT_QUEUE_MAX) /* numbers that a walk ever writes */
+#define GLINT_DEVICE_FILE_LIMIT 65536u            /* bytes of a device file, and of the buffer that one is written to */
+#define GLINT_DEVICE_FILE_HEADER 12u              /* bytes of a device file before its first record */
+#define GLINT_DEVICE_RECORD_HEADER 8u             /* bytes of such a record before its content: type and length */
 
 /* Bytes that the marks of `length` bytes of memory take: eight marks to a byte. */
 #define GLINT_MARKS(length) ((length) / 8 + ((length) % 8 != 0))
@@ -76,26 +79,27 @@ enum glint_refusal {
     GLINT_OVERLAP = 10,        /* shares a device address with a held mapping */
     GLINT_NO_ROOM = 11,        /* every lent record is in use */
     GLINT_CUTS = 12,           /* the range holds some but not all of a mapping; never with GLINT_TYPE1_IOMMU */
-    GLINT_TOO_LONG = 13,       /* transfer or stream over 65,536 bytes */
+    GLINT_TOO_LONG = 13,       /* transfer or stream over 65,536 bytes; a device file or its buffer */
     GLINT_UNMAPPED = 14,       /* place: first faulty offset; of a walk: device address of the faulty byte */
     GLINT_NO_RIGHT = 15,       /* place: the same */
     GLINT_UNWRITTEN = 16,      /* place: the same */
     GLINT_RUNNING = 17,        /* device not stopped */
-    GLINT_TRUNCATED = 18,      /* place: start of the part */
-    GLINT_HEADER = 19,         /* place: start of the part */
-    GLINT_UNKNOWN_PART = 20,   /* place: start of the part */
+    GLINT_TRUNCATED = 18,      /* place: start of the part, or of a device file's record */
+    GLINT_HEADER = 19,         /* also a device file's record that stands, or would stand, at the wrong level; place: the same */
+    GLINT_UNKNOWN_PART = 20,   /* also a device file's record; place: the same */
     GLINT_TWICE = 21,          /* place: start of the part */
-    GLINT_VALUE = 22,          /* also an event number below -1; place: start of the part */
+    GLINT_VALUE = 22,          /* also an event number below -1; length or property of a device file's record; place: as 18 */
     GLINT_MISMATCH = 23,       /* place: start of the part */
     GLINT_MISSING = 24,        /* no status part; place: length of the stream */
     GLINT_UNSET = 25,          /* the register is not set */
     GLINT_READ_ONLY = 26,      /* setting offered features */
-    GLINT_NO_SPACE = 27,       /* output buffer, or array for a walk, too small */
+    GLINT_NO_SPACE = 27,       /* output buffer, array for a walk, or buffer of a device file too small */
     GLINT_QUEUE_NOT_READY = 28,   /* the queue is not set, or not enabled */
     GLINT_RING_DISTANCE = 29,     /* the ring's index is further from the caller's last one than the queue has descriptors */
     GLINT_DESCRIPTOR_INDEX = 30,  /* a head or a next names no descriptor of the queue; place: heads finished */
     GLINT_CHAIN_LENGTH = 31,      /* a chain goes on behind as many descriptors as the queue has; place: heads finished */
-    GLINT_INDIRECT = 32           /* a descriptor is indirect; place: heads finished */
+    GLINT_INDIRECT = 32,          /* a descriptor is indirect; place: heads finished */
+    GLINT_MAGIC = 33              /* no device file has this magic */
 };
 
 /* The name of a refusal, as "Unwritten" for GLINT_UNWRITTEN; "?" for a number that is none. Ask it only of what was refused. */
@@ -106,9 +110,9 @@ static inline const char *glint_refusal_name(uint32_t code)
         "Unaligned", "Empty", "Range", "Overlap", "NoRoom", "Cuts", "TooLong",
         "Unmapped", "NoRight", "Unwritten", "Running", "Truncated", "Header", "UnknownPart",
         "Twice", "Value", "Mismatch", "Missing", "Unset", "ReadOnly", "NoSpace",
-        "QueueNotReady", "RingDistance", "DescriptorIndex", "ChainLength", "Indirect",
+        "QueueNotReady", "RingDistance", "DescriptorIndex", "ChainLength", "Indirect", "Magic",
     };
-    return code <= GLINT_INDIRECT ? names[code] : "?";
+    return code <= GLINT_MAGIC ? names[code] : "?";
 }
 
 /* ---- addresses */
@@ -240,6 +244,30 @@ typedef struct glint_part_step {
     uint64_t next;         /* the place of the next step; after a refusal or the end the place of this one */
 } glint_part_step;
 
+/* What is read of a device file: `outcome.result` is how many records it has, sub-records too. */
+typedef struct glint_device_header {
+    glint_outcome outcome;
+    uint32_t magic; /* GLINT_MAGIC_PCI or GLINT_MAGIC_DT */
+    uint32_t version;
+    uint32_t flags;
+} glint_device_header;
+
+/* One record of a device file: refused; or the end; or a record. */
+typedef struct glint_device_record {
+    glint_outcome outcome;
+    bool end;
+    uint32_t kind;         /* GLINT_RECORD_* */
+    size_t start;          /* where the record begins in the file */
+    size_t content_start;  /* where its content begins */
+    size_t content_length; /* how many bytes it has; of a REGION the 20 before its sub-records */
+} glint_device_record;
+
+/* The answer of a writer of device files; `outcome.result` is 0. */
+typedef struct glint_written_file {
+    glint_outcome outcome;
+    size_t used; /* bytes in use from now on: what the next call takes */
+} glint_written_file;
+
 /* The layout is part of the interface: a library for another machine must not link unnoticed. */
 GLINT_ASSERT(sizeof(bool) == 1);
 GLINT_ASSERT(sizeof(size_t) == 8);
@@ -274,6 +302,18 @@ GLINT_ASSERT(offsetof(glint_shown_line, pending) == 33);
 GLINT_ASSERT(sizeof(glint_walked) == 32);
 GLINT_ASSERT(offsetof(glint_walked, index) == 24);
 GLINT_ASSERT(sizeof(glint_part_step) == 56);
+GLINT_ASSERT(sizeof(glint_device_header) == 40);
+GLINT_ASSERT(offsetof(glint_device_header, magic) == 24);
+GLINT_ASSERT(offsetof(glint_device_header, version) == 28);
+GLINT_ASSERT(offsetof(glint_device_header, flags) == 32);
+GLINT_ASSERT(sizeof(glint_device_record) == 56);
+GLINT_ASSERT(offsetof(glint_device_record, end) == 24);
+GLINT_ASSERT(offsetof(glint_device_record, kind) == 28);
+GLINT_ASSERT(offsetof(glint_device_record, start) == 32);
+GLINT_ASSERT(offsetof(glint_device_record, content_start) == 40);
+GLINT_ASSERT(offsetof(glint_device_record, content_length) == 48);
+GLINT_ASSERT(sizeof(glint_written_file) == 32);
+GLINT_ASSERT(offsetof(glint_written_file, used) == 24);
 
 /* ---- the library's functions */
 
@@ -380,6 +420,32 @@ glint_part_step glint_step(const uint8_t *stream, size_t stream_length, size_t p
 #define GLINT_IS_SAVE UINT64_MAX
 uint64_t glint_check_save(const uint8_t *stream, size_t stream_length);
 uint64_t glint_check_save_128(const uint8_t *stream, size_t stream_length);
+
+/*
+ * Device files of the old layout (GLINT_RECORD_* below). These four take neither state nor memory.
+ *
+ * Reading judges the whole file, at each call. Refused, with the start of the record as place: 13; 18 for a header that ends early, 33;
+ * then by the first fault in file order: 18 for less than 8 bytes left in the file or in the REGION around, 20, 19, 18 for a length past
+ * that room, 22.
+ *
+ * glint_read_device_record gives record `n`, the first being 0. Sub-records count, and follow their REGION. Past the last record it says
+ * that this is the end.
+ */
+glint_device_header glint_read_device_file(const uint8_t *file, size_t file_length);
+glint_device_record glint_read_device_record(const uint8_t *file, size_t file_length, uint64_t n);
+
+/*
+ * Starts a file of no records at the buffer's start; `used` is then GLINT_DEVICE_FILE_HEADER. Refused, at place 0: 13, 33, 27.
+ *
+ * Appends a record behind the bytes in use, a REGION bare; a sub-record goes into the REGION that stands last, whose length grows. `used`
+ * is then 8 and the content more. Refused: 13; 18 at 0 for more bytes in use than the buffer has; what reading refuses the bytes in use
+ * with; then, at place 0: 20; 19 for a sub-record where no REGION stands last; 22, 27.
+ *
+ * Bytes behind those in use are not looked at, and written only where the record goes.
+ */
+glint_written_file glint_start_device_file(uint8_t *buf, size_t buf_length, uint32_t magic, uint32_t version, uint32_t flags);
+glint_written_file glint_append_device_record(uint8_t *buf, size_t buf_length, size_t used, uint32_t kind, const uint8_t *content,
+                                              size_t content_length);
 
 /* ---- requests */
 
@@ -520,6 +586,32 @@ typedef struct glint_buffer {
     uint32_t length;
     uint16_t flags; /* GLINT_DESCRIPTOR_*, and whatever other bits the driver set */
 } glint_buffer;
+
+/* ---- device files of the old layout */
+
+/*
+ * A header of GLINT_DEVICE_FILE_HEADER bytes: magic, version, flags, 4 each. Then records, each with type (4), length of all of it (4), and
+ * its content, whose fields follow each other without gaps. Numbers have their lowest byte first.
+ */
+
+/* Magics, which say on which bus the device is. */
+#define GLINT_MAGIC_PCI 0x70636900u
+#define GLINT_MAGIC_DT 0x64740000u /* device tree */
+
+/* Types of records, and their contents. REGION and INTERRUPT stand outside, all others inside a REGION. */
+#define GLINT_RECORD_REGION 1u           /* 20 bytes: flags 4, offset 8, length 8; then its sub-records, which are no part of its content */
+#define GLINT_RECORD_DTPATH 2u           /* any number of bytes: a path in the device tree; a terminator is not needed */
+#define GLINT_RECORD_DTINDEX 3u          /* 8: property 4 (GLINT_PROPERTY_*), index 4 */
+#define GLINT_RECORD_INTERRUPT 4u        /* 8: flags 4, handle 4 */
+#define GLINT_RECORD_PCI_CONFIG_SPACE 5u /* 4: flags */
+#define GLINT_RECORD_PCI_BAR_INDEX 6u    /* 8: flags 4, index 4 */
+#define GLINT_RECORD_PHYS_ADDR 7u        /* 12: flags 4, address 8 */
+
+/* Properties of the device tree that a DTINDEX may name. */
+#define GLINT_PROPERTY_REG 1u
+#define GLINT_PROPERTY_RANGES 2u
+#define GLINT_PROPERTY_INTERRUPTS 3u
+#define GLINT_PROPERTY_INTERRUPT_MAP 4u
 
 /* ==== a bench that keeps its state ==== */
 
@@ -971,6 +1063,128 @@ static inline uint64_t glint_check_stream(const void *stream, size_t length)
 static inline uint64_t glint_check_stream_128(const void *stream, size_t length)
 {
     return glint_is_null(stream, length) ? 0 : glint_check_save_128(glint_bytes(stream), length);
+}
+
+/* ---- device files */
+
+/* Reading where the file may be null: with length 0 it is the empty file. */
+static inline glint_device_header glint_device_file_header(const void *file, size_t length)
+{
+    if (glint_is_null(file, length)) {
+        glint_device_header refused = {glint_null_refusal(), 0, 0, 0};
+        return refused;
+    }
+    return glint_read_device_file(glint_bytes(file), length);
+}
+
+/* `content` gets the bytes of the file that are the record's content, of which there are `content_length`; it stays where there is none. */
+static inline glint_device_record glint_device_file_record(const void *file, size_t length, uint64_t n, const uint8_t **content)
+{
+    if (glint_is_null(file, length)) {
+        glint_device_record refused = {glint_null_refusal(), false, 0, 0, 0, 0};
+        return refused;
+    }
+    const uint8_t *bytes = glint_bytes(file);
+    glint_device_record record = glint_read_device_record(bytes, length, n);
+    if (!record.outcome.refused && !record.end)
+        *content = bytes + record.content_start;
+    return record;
+}
+
+/* The number in 4 or 8 bytes of a content. */
+static inline uint32_t glint_content_32(const uint8_t *content, size_t offset)
+{
+    uint32_t number;
+    memcpy(&number, content + offset, sizeof number);
+    return number;
+}
+
+static inline uint64_t glint_content_64(const uint8_t *content, size_t offset)
+{
+    uint64_t number;
+    memcpy(&number, content + offset, sizeof number);
+    return number;
+}
+
+/* A device file that is being written: its buffer, which the caller lends, and how many bytes of it are in use. */
+typedef struct glint_device_writer {
+    uint8_t *buffer;
+    size_t length;
+    size_t used;
+} glint_device_writer;
+
+/* Starts a file in a buffer. Where that is refused, no byte is in use, and every append is refused. */
+static inline glint_outcome glint_device_writer_start(glint_device_writer *writer, void *buffer, size_t length, uint32_t magic,
+                                                      uint32_t version, uint32_t flags)
+{
+    writer->buffer = (uint8_t *)buffer;
+    writer->length = length;
+    writer->used = 0;
+    if (glint_is_null(buffer, length))
+        return glint_null_refusal();
+    glint_written_file written = glint_start_device_file(glint_bytes_mut(buffer), length, magic, version, flags);
+    writer->used = written.used;
+    return written.outcome;
+}
+
+/* Appends a record by type and content. A refusal leaves the buffer and the bytes in use. */
+static inline glint_outcome glint_device_writer_append(glint_device_writer *writer, uint32_t kind, const void *content, size_t length)
+{
+    if (glint_is_null(writer->buffer, writer->length) || glint_is_null(content, length))
+        return glint_null_refusal();
+    glint_written_file written = glint_append_device_record(glint_bytes_mut(writer->buffer), writer->length, writer->used, kind,
+                                                            glint_bytes(content), length);
+    if (!written.outcome.refused)
+        writer->used = written.used;
+    return written.outcome;
+}
+
+/* The records by their fields. */
+
+static inline glint_outcome glint_device_writer_region(glint_device_writer *writer, uint32_t flags, uint64_t offset, uint64_t length)
+{
+    uint8_t content[20];
+    memcpy(content, &flags, sizeof flags);
+    memcpy(content + 4, &offset, sizeof offset);
+    memcpy(content + 12, &length, sizeof length);
+    return glint_device_writer_append(writer, GLINT_RECORD_REGION, content, sizeof content);
+}
+
+/* The path of a string, without the 0 behind it. */
+static inline glint_outcome glint_device_writer_dtpath(glint_device_writer *writer, const char *path)
+{
+    return glint_device_writer_append(writer, GLINT_RECORD_DTPATH, path, strlen(path));
+}
+
+static inline glint_outcome glint_device_writer_dtindex(glint_device_writer *writer, uint32_t property, uint32_t index)
+{
+    const uint32_t content[2] = {property, index};
+    return glint_device_writer_append(writer, GLINT_RECORD_DTINDEX, content, sizeof content);
+}
+
+static inline glint_outcome glint_device_writer_interrupt(glint_device_writer *writer, uint32_t flags, uint32_t handle)
+{
+    const uint32_t content[2] = {flags, handle};
+    return glint_device_writer_append(writer, GLINT_RECORD_INTERRUPT, content, sizeof content);
+}
+
+static inline glint_outcome glint_device_writer_pci_config_space(glint_device_writer *writer, uint32_t flags)
+{
+    return glint_device_writer_append(writer, GLINT_RECORD_PCI_CONFIG_SPACE, &flags, sizeof flags);
+}
+
+static inline glint_outcome glint_device_writer_pci_bar_index(glint_device_writer *writer, uint32_t flags, uint32_t index)
+{
+    const uint32_t content[2] = {flags, index};
+    return glint_device_writer_append(writer, GLINT_RECORD_PCI_BAR_INDEX, content, sizeof content);
+}
+
+static inline glint_outcome glint_device_writer_phys_addr(glint_device_writer *writer, uint32_t flags, uint64_t address)
+{
+    uint8_t content[12];
+    memcpy(content, &flags, sizeof flags);
+    memcpy(content + 4, &address, sizeof address);
+    return glint_device_writer_append(writer, GLINT_RECORD_PHYS_ADDR, content, sizeof content);
 }
 
 #ifdef __cplusplus

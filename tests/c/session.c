@@ -1070,7 +1070,8 @@ static void refusal_names(void)
     CHECK(strcmp(glint_refusal_name(GLINT_DESCRIPTOR_INDEX), "DescriptorIndex") == 0);
     CHECK(strcmp(glint_refusal_name(GLINT_CHAIN_LENGTH), "ChainLength") == 0);
     CHECK(strcmp(glint_refusal_name(GLINT_INDIRECT), "Indirect") == 0);
-    CHECK(strcmp(glint_refusal_name(33), "?") == 0);
+    CHECK(strcmp(glint_refusal_name(GLINT_MAGIC), "Magic") == 0);
+    CHECK(strcmp(glint_refusal_name(34), "?") == 0);
 }
 
 // Whatever a test did, nothing around records, memory and marks was written.

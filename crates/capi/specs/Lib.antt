@@ -1,2 +1,3 @@
 pub mod Structs
 pub mod Contract
+pub mod DeviceFiles

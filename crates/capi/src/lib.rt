@@ -5,6 +5,7 @@ use address::DeviceAddress;
 use address::MemoryAddress;
 use answer::Answer;
 use answer::Verdict;
+use device_file::Written;
 use dma::Checked;
 use emulator::Changed;
 use emulator::Location;
@@ -41,6 +42,9 @@ ghost use Rattle.dma.specs.Walk.{Ready};
 ghost use Rattle.registers.specs.Cards.{isCard, wordsOf};
 ghost use Rattle.registers.specs.declared.Card.the-variants.{Features64, Features128};
 ghost use Rattle.conformance.specs.Saves.{NumberAnswers};
+ghost use Rattle.device_file.specs.Read.{readFile};
+ghost use Rattle.device_file.specs.Write.{startFile, appendRecord};
+ghost use Rattle.device_file.specs.Scan.{headerOf};
 ghost use Rattle.emulator.specs.Machine.{machineOf, emulatorOf, both as stateAndMemory, sound as soundMachine, lendable as canLend, usable as canUse};
 ghost use Rattle.emulator.specs.Effect.{value};
 ghost use Rattle.emulator.specs.Requests.{sizeChecks};
@@ -51,6 +55,7 @@ ghost use Rattle.vfio.specs.Entries.{entryAt};
 ghost use Rattle.vfio.specs.Handlers.{setIommuIndex, setIrqsIndex, mapIndex, unmapIndex};
 ghost use Rattle.capi.specs.Structs.{success as succeeded, refusal as refused, answerStruct, doneIf, foundStruct, lineStruct, walkedStruct, noPart, keptBy};
 ghost use Rattle.capi.specs.Contract.{Tells, TellsAlone, FindsAt, ShowsLine, WalksQueue, IsNot, Fits, Replied, Handled, Judged, Steps};
+ghost use Rattle.capi.specs.DeviceFiles.{verdictStruct, headerStruct, HandsRecord, writtenStruct, WritesFile};
 
 // An answer: a result, or the number and the place of a refusal.
 #[repr(C)]
@@ -104,6 +109,34 @@ pub struct PartStep {
     pub value_start: usize,
     pub value_length: usize,
     pub next: usize,
+}
+
+// What is read of a device file: how many records it has, as the result, and its header's fields, which are 0 where it is refused.
+#[repr(C)]
+pub struct DeviceHeader {
+    pub outcome: Outcome,
+    pub magic: u32,
+    pub version: u32,
+    pub flags: u32,
+}
+
+// A record of a device file: its type, where it begins, and the bounds of its content in the file; or the end, where the file has no more
+// records. What an answer has no use for is 0.
+#[repr(C)]
+pub struct DeviceRecord {
+    pub outcome: Outcome,
+    pub end: bool,
+    pub kind: u32,
+    pub start: usize,
+    pub content_start: usize,
+    pub content_length: usize,
+}
+
+// What writing a device file answers: how many bytes of the buffer are in use stands beside the outcome, 0 where it is refused.
+#[repr(C)]
+pub struct WrittenFile {
+    pub outcome: Outcome,
+    pub used: usize,
 }
 
 fn success(result: u64) -> Outcome
@@ -884,4 +917,86 @@ pub extern "C" fn glint_check_save_128(stream: &[u8]) -> u64
     ensures { λ r. ⌜ NumberAnswers (wordsOf Features128) (now (stream .entry)) r ⌝ }
 {
     conformance::check_number(Card::Features128, stream)
+}
+
+// ---- device files, which need no bench
+
+fn settled(verdict: Verdict, result: u64) -> Outcome
+    ensures { λ r. ⌜ r ≡ verdictStruct verdict result ⌝ }
+{
+    match verdict {
+        Verdict::Pass => success(result),
+        Verdict::Fail(code, place) => refusal(code, place),
+    }
+}
+
+// Judges a whole device file, and reads its header.
+#[no_mangle]
+pub extern "C" fn glint_read_device_file(file: &[u8]) -> DeviceHeader
+    ensures { λ r. ⌜ r ≡ headerStruct (headerOf (readFile (now (file .entry)))) ⌝ }
+{
+    let h = device_file::read(file);
+    let verdict = h.verdict;
+    let outcome = settled(verdict, h.records);
+    DeviceHeader {
+        outcome,
+        magic: h.magic,
+        version: h.version,
+        flags: h.flags,
+    }
+}
+
+// Judges a whole device file, and hands out record `n`, the first being 0.
+#[no_mangle]
+pub extern "C" fn glint_read_device_record(file: &[u8], n: u64) -> DeviceRecord
+    ensures { λ r. ⌜ HandsRecord (now (file .entry)) n r ⌝ }
+{
+    let r = device_file::read_record(file, n);
+    let verdict = r.verdict;
+    let outcome = settled(verdict, 0);
+    DeviceRecord {
+        outcome,
+        end: r.end,
+        kind: r.kind,
+        start: r.start,
+        content_start: r.content_start,
+        content_length: r.content_length,
+    }
+}
+
+fn written(w: Written) -> WrittenFile
+    ensures { λ r. ⌜ r ≡ writtenStruct w ⌝ }
+{
+    let verdict = w.verdict;
+    let outcome = settled(verdict, 0);
+    WrittenFile {
+        outcome,
+        used: w.used,
+    }
+}
+
+// Starts a device file in a buffer.
+#[no_mangle]
+pub extern "C" fn glint_start_device_file(
+    buf: &mut [u8],
+    magic: u32,
+    version: u32,
+    flags: u32,
+) -> WrittenFile
+    ensures { λ r. ⌜ WritesFile (now (buf .entry)) (startFile (now (buf .entry)) magic version flags) r (now (buf .exit)) ⌝ }
+{
+    written(device_file::start(buf, magic, version, flags))
+}
+
+// Appends a record to the device file in a buffer's first `used` bytes.
+#[no_mangle]
+pub extern "C" fn glint_append_device_record(
+    buf: &mut [u8],
+    used: usize,
+    kind: u32,
+    content: &[u8],
+) -> WrittenFile
+    ensures { λ r. ⌜ WritesFile (now (buf .entry)) (appendRecord (now (buf .entry)) used kind (now (content .entry))) r (now (buf .exit)) ⌝ }
+{
+    written(device_file::append(buf, used, kind, content))
 }

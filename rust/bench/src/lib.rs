@@ -5,6 +5,7 @@
 
 mod calls;
 mod check_save;
+mod device_file;
 mod measures;
 mod plain;
 mod rival;
@@ -40,6 +41,7 @@ pub fn measure_all(rivals: &[Rival]) {
         show(measure, rivals);
     }
     check_save::show();
+    device_file::show();
     search::show();
 }
 

@@ -6,6 +6,7 @@
 mod account;
 pub mod call;
 pub mod damage;
+pub mod device_files;
 pub mod events;
 pub mod generate;
 pub mod interrupts;

@@ -5,6 +5,7 @@ use std::io::{self, Write};
 use std::process::ExitCode;
 use std::time::{Duration, Instant, SystemTime, UNIX_EPOCH};
 
+use glint_differential::device_files::{faithful_file, run_files, FileCoverage};
 use glint_differential::run::{run_list, Coverage};
 use glint_differential::trio::faithful;
 
@@ -12,9 +13,9 @@ const USAGE: &str = "\
 usage: glint-differential [--calls N | --seconds N] [--seed N]
 
 Makes generated lists of calls on the emulator, on a twin with other garbage and on the second
-program, and compares them after every call.
+program, and compares them after every call; with each list some device files.
 
-  --calls N     at least this many calls (1200000)
+  --calls N     at least this many calls (1200000), besides those on device files
   --seconds N   for this long, with a line of progress every five seconds
   --seed N      lists have the seeds from this one on (1; with --seconds, by the clock)
 
@@ -79,6 +80,7 @@ fn first_seed(options: &Options) -> u64 {
 fn run(options: &Options) -> ExitCode {
     let began = Instant::now();
     let mut coverage = Coverage::default();
+    let mut files = FileCoverage::default();
     let mut progress = began;
     let mut seed = first_seed(options);
     println!("seeds from {seed:#x} on");
@@ -86,6 +88,11 @@ fn run(options: &Options) -> ExitCode {
         if let Err(difference) = run_list(seed, faithful, &mut coverage) {
             print!("{}", difference.report());
             println!("1 difference, after {} calls", coverage.calls);
+            return ExitCode::from(1);
+        }
+        if let Err(difference) = run_files(seed, faithful_file, &mut files) {
+            print!("{}", difference.report());
+            println!("1 difference, after {} calls on device files", files.calls);
             return ExitCode::from(1);
         }
         seed = seed.wrapping_add(1);
@@ -107,17 +114,20 @@ fn run(options: &Options) -> ExitCode {
     print!("{}", coverage.pairs.table());
     print!("{}", coverage.damages.table());
     print!("{}", coverage.events.table());
+    print!("{}", files.table());
     let mut faults = coverage.pairs.faults();
     faults.extend(coverage.damages.faults());
     faults.extend(coverage.events.faults());
+    faults.extend(files.faults());
     for fault in &faults {
         println!("NOT COVERED: {fault}");
     }
     let seconds = began.elapsed().as_secs_f64();
     println!(
-        "{} calls in {seconds:.1} s, no difference; {} pairs, {} things not covered",
+        "{} calls, and {} on device files, in {seconds:.1} s, no difference; {} pairs, {} things not covered",
         coverage.calls,
-        coverage.pairs.allowed(),
+        files.calls,
+        coverage.pairs.allowed() + files.allowed(),
         faults.len()
     );
     if faults.is_empty() || options.time.is_some() {

@@ -10,12 +10,12 @@ use crate::call::{Answer, Call};
 /// An accepted call; for the walker, a part.
 const DONE: usize = 0;
 /// The walker's end. Between the two stand the refusals by their numbers.
-const END: usize = 33;
+const END: usize = 34;
 /// A look-up's 14 with no mapping held, so that nothing was looked at.
-const NONE_HELD: usize = 34;
+const NONE_HELD: usize = 35;
 
 /// The last one stands for every other number.
-const ANSWERS: usize = 36;
+const ANSWERS: usize = 37;
 
 /// A call and its answers; after 1, in the order of its checks.
 type Row = (&'static str, &'static [usize]);

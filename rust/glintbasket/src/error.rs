@@ -14,7 +14,7 @@ macro_rules! refusals {
 
         impl Refusal {
             /// All refusals, by rising number.
-            pub const ALL: [Refusal; 32] = [$(Refusal::$name,)*];
+            pub const ALL: [Refusal; 33] = [$(Refusal::$name,)*];
 
             /// The name, as `"Unwritten"`.
             pub fn name(self) -> &'static str {
@@ -53,7 +53,7 @@ refusals! {
     NoRoom = 11,
     /// The range holds some but not all of a mapping. Never in a container of [`Type1`](crate::IommuType::Type1).
     Cuts = 12,
-    /// A transfer or stream over 65,536 bytes.
+    /// A transfer or stream over 65,536 bytes; or a device file, or the buffer for one.
     TooLong = 13,
     /// No mapping holds the device address. Place: the first faulty offset; in a walk of a queue the device address of the faulty byte.
     Unmapped = 14,
@@ -63,15 +63,18 @@ refusals! {
     Unwritten = 16,
     /// The device is not stopped.
     Running = 17,
-    /// The stream ends inside the part. Place: the start of the part.
+    /// The stream ends inside the part; or the record of a device file does not end inside the file, or the REGION around it. Place: the
+    /// start of the part or record.
     Truncated = 18,
-    /// The part's header is malformed. Place: the start of the part; 0 for a register.
+    /// The part's header is malformed; or the record of a device file stands at the wrong level, or no REGION is there to take it. Place:
+    /// the start of the part or record; 0 for a register and for a record that is appended.
     Header = 19,
-    /// No such type. Place: the start of the part; 0 for a register.
+    /// No such type of register, part or record. Place: the same.
     UnknownPart = 20,
     /// The stream has the part twice. Place: the start of the second.
     Twice = 21,
-    /// The value is not allowed, or an event number is below -1. Place: the start of the part; 0 for a register or an event number.
+    /// The value is not allowed, or an event number is below -1; or the record of a device file has not the length of its type, or no such
+    /// property. Place: the start of the part or record; 0 for a register, an event number and a record that is appended.
     Value = 22,
     /// The value does not fit this device. Place: the start of the part; 0 for a register.
     Mismatch = 23,
@@ -81,7 +84,7 @@ refusals! {
     Unset = 25,
     /// Offered features cannot be set.
     ReadOnly = 26,
-    /// The output buffer is too small, or the array for a walk of a queue.
+    /// The output buffer is too small, or the array for a walk of a queue, or the buffer of a device file.
     NoSpace = 27,
     /// The queue is not set, or not enabled.
     QueueNotReady = 28,
@@ -93,10 +96,12 @@ refusals! {
     ChainLength = 31,
     /// A descriptor is indirect. Place: how many heads were finished.
     Indirect = 32,
+    /// No device file has this magic.
+    Magic = 33,
 }
 
 impl Refusal {
-    /// The number, 1 to 32.
+    /// The number, 1 to 33.
     pub fn number(self) -> u32 {
         self as u32
     }
@@ -125,7 +130,7 @@ pub struct Error {
 
 impl Error {
     pub(crate) fn from_code(code: u32, place: u64) -> Error {
-        let refusal = Refusal::from_number(code).expect("the library refuses with 1 to 32");
+        let refusal = Refusal::from_number(code).expect("the library refuses with 1 to 33");
         Error { refusal, place }
     }
 }

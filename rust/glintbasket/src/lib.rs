@@ -87,12 +87,17 @@
 //! [`Bench::walk_queue`] goes through a split virtqueue as the device does: the driver's ring, and each head's chain of descriptors. A ring
 //! that a driver got wrong is refused with the head, or with the very address of the byte that nobody wrote.
 //!
+//! # Device files
+//!
+//! [`DeviceFile`] reads the files by which a device once described itself, [`DeviceFileWriter`] writes them; the module [`device_file`] has
+//! their records. They stand apart from a bench.
+//!
 //! # What remains for the caller
 //!
 //! Every state, number, length and order of calls has an answer. Three things no call can test, and in safe Rust the types see to them:
 //!
 //! 1. what is lent has as many bytes, records or numbers as its length says (a slice);
-//! 2. records, memory, marks, the buffer or array of one call and the state do not overlap (`&mut`);
+//! 2. records, memory, marks, the buffers or array of one call and the state do not overlap (`&mut`);
 //! 3. they are used by one thread at a time (`&mut`).
 //!
 //! From C they are the caller's; `include/glintbasket.h` has the same list.
@@ -113,6 +118,7 @@ mod bench;
 mod builder;
 mod card;
 mod check_save;
+pub mod device_file;
 mod error;
 mod iommu_type;
 mod irq;
@@ -128,6 +134,8 @@ pub use bench::{marks_len, Bench, Location, OwnedBench, Target};
 pub use builder::Builder;
 pub use card::Card;
 pub use check_save::{check_save, SaveCheck};
+#[doc(inline)]
+pub use device_file::{DeviceFile, DeviceFileWriter};
 pub use error::{Error, LookUpError, Refusal, Result};
 pub use iommu_type::IommuType;
 pub use irq::{IrqAction, IrqData, IrqIndex, Line};

@@ -37,6 +37,7 @@ fn numbers_and_names_are_the_table_s() {
         "DescriptorIndex",
         "ChainLength",
         "Indirect",
+        "Magic",
     ];
     assert_eq!(Refusal::ALL.map(Refusal::name), names);
     for (number, refusal) in (1..).zip(Refusal::ALL) {
@@ -47,7 +48,7 @@ fn numbers_and_names_are_the_table_s() {
 
 #[test]
 fn no_other_number_is_a_refusal() {
-    for number in [0, 33, u32::MAX] {
+    for number in [0, 34, u32::MAX] {
         assert_eq!(Refusal::from_number(number), None);
     }
 }

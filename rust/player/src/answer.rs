@@ -1,5 +1,6 @@
 //! What a call answered, and how it is printed.
 
+use glintbasket::device_file::Header;
 use glintbasket::{Buffer, Error, Line, Location, LookUpError, SaveCheck, Walk};
 use std::fmt;
 
@@ -21,6 +22,15 @@ pub enum Answer {
     },
     End,
     Checked(SaveCheck),
+    /// A device file's header, and how many records it has.
+    FileRead(Header, u64),
+    Record {
+        kind: u32,
+        start: usize,
+        content: Vec<u8>,
+    },
+    /// The bytes in use of a device file that was written.
+    FileWritten(Vec<u8>),
     Refused(Error),
 }
 
@@ -65,6 +75,18 @@ impl fmt::Display for Answer {
             Answer::End => write!(f, "end"),
             Answer::Checked(SaveCheck::Save) => write!(f, "save"),
             Answer::Checked(SaveCheck::DiffersAt(place)) => write!(f, "differs at {place}"),
+            Answer::FileRead(header, records) => {
+                write!(f, "ok {records} magic {:#x} ", header.magic)?;
+                write!(f, "version {} flags {}", header.version, header.flags)
+            }
+            Answer::Record {
+                kind,
+                start,
+                content,
+            } => write!(f, "record {kind} start {start} : {}", Pairs(content)),
+            Answer::FileWritten(bytes) => {
+                write!(f, "ok 0 used {} : {}", bytes.len(), Pairs(bytes))
+            }
             Answer::Refused(error) => {
                 let (refusal, place) = (error.refusal, error.place);
                 write!(
@@ -211,6 +233,27 @@ mod tests {
         let text = "part 0x3 flags 1 selector 16 next 17 : 0f";
         assert_eq!(part.to_string(), text);
         assert_eq!(Answer::End.to_string(), "end");
+    }
+
+    #[test]
+    fn a_device_file_is_printed() {
+        let header = Header {
+            magic: 0x7063_6900,
+            version: 1,
+            flags: u32::MAX,
+        };
+        let text = "ok 12 magic 0x70636900 version 1 flags 4294967295";
+        assert_eq!(Answer::FileRead(header, 12).to_string(), text);
+        let record = |content| Answer::Record {
+            kind: 2,
+            start: 40,
+            content,
+        };
+        let text = "record 2 start 40 : 2f ff";
+        assert_eq!(record(vec![0x2f, 0xff]).to_string(), text);
+        assert_eq!(record(vec![]).to_string(), "record 2 start 40 : -");
+        let written = Answer::FileWritten(vec![0, 0x69]);
+        assert_eq!(written.to_string(), "ok 0 used 2 : 00 69");
     }
 
     #[test]

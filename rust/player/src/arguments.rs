@@ -9,6 +9,7 @@ pub const USAGE: &str = "\
 usage: glintbasket play [--garbage BYTE] [--twice] FILE
        glintbasket show [--garbage BYTE] [--svg OUT] FILE
        glintbasket check-save [--card CARD] FILE
+       glintbasket device-file [--text] FILE
        glintbasket --help | --version
 ";
 
@@ -18,6 +19,7 @@ Glintbasket plays session files on a verified emulator of the host side of VFIO.
 usage: glintbasket play [--garbage BYTE] [--twice] FILE
        glintbasket show [--garbage BYTE] [--svg OUT] FILE
        glintbasket check-save [--card CARD] FILE
+       glintbasket device-file [--text] FILE
        glintbasket --help | --version
 
 play    plays FILE and prints one line for each call
@@ -27,6 +29,9 @@ show    plays FILE and prints a map of its memory, the container's type, the
 check-save
         says whether the bytes of FILE are what saving writes; if not, the place
         of the first byte that no save has there, in which part and field
+device-file
+        prints header and records of FILE, a device file of the old layout; if it
+        is none, the refusal, its place and what is wrong there
 
   --garbage BYTE   what each byte of memory, of records, of an output buffer and
                    each stale byte starts as, instead of what FILE says
@@ -36,13 +41,14 @@ check-save
   --svg OUT        writes the map as a picture, too
   --card CARD      the card whose saves are meant, 64 or 128 by the number of its
                    feature bits (default 64)
+  --text           FILE is a text: bytes as sessions write them, with comments
   --help, -h       prints this
   --version, -V    prints the version
 
 Exit status:
-  0  played, and every expectation is met; or FILE is a save
+  0  played, and every expectation is met; or FILE is a save, or a device file
   1  played, but an expectation is not met, or the two plays differ; or FILE is
-     no save
+     no save, or no device file
   2  not played: FILE has faults or cannot be read, or the command line is wrong
   3  what was played could not be written
 ";
@@ -65,6 +71,10 @@ pub enum Command {
         file: PathBuf,
         card: Card,
     },
+    DeviceFile {
+        file: PathBuf,
+        text: bool,
+    },
 }
 
 /// What stands on the command line behind the program's name, or what is wrong with it.
@@ -77,6 +87,7 @@ pub fn read(arguments: impl IntoIterator<Item = OsString>) -> Result<Command, St
         Some("play") => Options::read(arguments)?.play(),
         Some("show") => Options::read(arguments)?.show(),
         Some("check-save") => Options::read(arguments)?.check_save(),
+        Some("device-file") => Options::read(arguments)?.device_file(),
         _ => Err(format!("{command:?} is no command")),
     }
 }
@@ -98,6 +109,7 @@ struct Options {
     twice: bool,
     svg: Option<PathBuf>,
     card: Option<Card>,
+    text: bool,
 }
 
 impl Options {
@@ -130,6 +142,10 @@ impl Options {
                 self.twice = true;
                 Ok(())
             }
+            Some("--text") => {
+                self.text = true;
+                Ok(())
+            }
             Some("--help" | "-h") => {
                 self.help = true;
                 Ok(())
@@ -146,6 +162,7 @@ impl Options {
             return Err("--svg goes with show".to_string());
         }
         self.no_card()?;
+        self.no_text()?;
         Ok(Command::Play {
             file: self.file.ok_or("FILE is missing")?,
             garbage: self.garbage,
@@ -161,6 +178,7 @@ impl Options {
             return Err("--twice goes with play".to_string());
         }
         self.no_card()?;
+        self.no_text()?;
         Ok(Command::Show {
             file: self.file.ok_or("FILE is missing")?,
             garbage: self.garbage,
@@ -172,13 +190,39 @@ impl Options {
         if self.help {
             return Ok(Command::Help);
         }
-        if self.garbage.is_some() || self.twice || self.svg.is_some() {
-            return Err("--garbage, --twice and --svg go with sessions".to_string());
-        }
+        self.no_session()?;
+        self.no_text()?;
         Ok(Command::CheckSave {
             file: self.file.ok_or("FILE is missing")?,
             card: self.card.unwrap_or_default(),
         })
+    }
+
+    fn device_file(self) -> Result<Command, String> {
+        if self.help {
+            return Ok(Command::Help);
+        }
+        self.no_session()?;
+        self.no_card()?;
+        Ok(Command::DeviceFile {
+            file: self.file.ok_or("FILE is missing")?,
+            text: self.text,
+        })
+    }
+
+    /// What is said of a session.
+    fn no_session(&self) -> Result<(), String> {
+        if self.garbage.is_some() || self.twice || self.svg.is_some() {
+            return Err("--garbage, --twice and --svg go with sessions".to_string());
+        }
+        Ok(())
+    }
+
+    fn no_text(&self) -> Result<(), String> {
+        if self.text {
+            return Err("--text goes with device-file".to_string());
+        }
+        Ok(())
     }
 
     /// A session names its cards itself.
@@ -248,6 +292,16 @@ mod tests {
             svg: Some("b".into()),
         };
         assert_eq!(read_words("show --svg b a"), Ok(expected));
+    }
+
+    #[test]
+    fn device_file_may_be_a_text() {
+        let expected = |text| {
+            let file = "a".into();
+            Ok(Command::DeviceFile { file, text })
+        };
+        assert_eq!(read_words("device-file a"), expected(false));
+        assert_eq!(read_words("device-file a --text"), expected(true));
     }
 
     #[test]

@@ -3,6 +3,7 @@
 mod answer;
 mod arguments;
 mod check_save;
+mod device_file;
 mod map_svg;
 mod map_text;
 mod pages;
@@ -11,7 +12,7 @@ mod session;
 
 use arguments::Command;
 use play::{Played, RefusedByte, Store};
-use session::Session;
+use session::{Fault, Session};
 use std::fmt::Display;
 use std::fs::{self, File};
 use std::io::{self, BufWriter, Read, Write};
@@ -86,6 +87,12 @@ fn run(command: Command) -> Result<bool, Failure> {
             writeln!(out, "{found}")?;
             found.is_save()
         }
+        Command::DeviceFile { file, text: false } => {
+            device_file::print(&mut out, &read_file(&file)?)?
+        }
+        Command::DeviceFile { file, text: true } => {
+            device_file::print(&mut out, &text_bytes(&file)?)?
+        }
     };
     out.flush()?;
     Ok(met)
@@ -93,14 +100,23 @@ fn run(command: Command) -> Result<bool, Failure> {
 
 /// The session of a file, with the command line's garbage if there is one.
 fn session(path: &Path, garbage: Option<u8>) -> Result<Session, Failure> {
-    let name = path.display();
     let bytes = read_file(path)?;
-    let mut session = session::read(&bytes).map_err(|faults| {
-        let lines = faults.iter().map(|fault| format!("{name}:{fault}\n"));
-        Failure::NotPlayed(lines.collect())
-    })?;
+    let mut session = session::read(&bytes).map_err(|faults| faulty(path, &faults))?;
     session.garbage = garbage.unwrap_or(session.garbage);
     Ok(session)
+}
+
+/// The bytes that a text stands for.
+fn text_bytes(path: &Path) -> Result<Vec<u8>, Failure> {
+    let text = read_file(path)?;
+    session::read_text(&text).map_err(|faults| faulty(path, &faults))
+}
+
+/// A line for each fault of a file.
+fn faulty(path: &Path, faults: &[Fault]) -> Failure {
+    let name = path.display();
+    let lines = faults.iter().map(|fault| format!("{name}:{fault}\n"));
+    Failure::NotPlayed(lines.collect())
 }
 
 fn read_file(path: &Path) -> Result<Vec<u8>, Failure> {

@@ -3,8 +3,9 @@
 use crate::answer::Answer;
 use crate::session::{output_size, Call, Pattern, Session, Step};
 use glintbasket::{
-    check_save, marks_len, Bench, Buffer, Card, DeviceAddress, Error, IrqIndex, Mapping,
-    MemoryAddress, Parts, Refusal, Rights, Target, Walk, BUFFER_NUMBERS, WALKED_MAX,
+    check_save, marks_len, Bench, Buffer, Card, DeviceAddress, DeviceFile, DeviceFileWriter, Error,
+    IrqIndex, Mapping, MemoryAddress, Parts, Refusal, Rights, Target, Walk, BUFFER_NUMBERS,
+    WALKED_MAX,
 };
 
 /// A bench's records and memory, each byte of which starts as the session's garbage says, and its marks.
@@ -196,6 +197,30 @@ impl<'m> Player<'m> {
                 let stream = stream.fill(self.garbage);
                 Ok(Answer::Checked(check_save(*card, &stream)))
             }
+            Call::ReadDeviceFile(file) => {
+                let file = file.fill(self.garbage);
+                let read = DeviceFile::parse(&file)?;
+                Ok(Answer::FileRead(read.header(), read.record_count()))
+            }
+            Call::ReadDeviceRecord(n, file) => record_of(*n, &file.fill(self.garbage)),
+            Call::StartDeviceFile { room, header } => {
+                let mut buffer = vec![self.garbage; *room];
+                let writer = DeviceFileWriter::start(&mut buffer, *header)?;
+                Ok(Answer::FileWritten(writer.bytes().to_vec()))
+            }
+            Call::AppendDeviceRecord {
+                room,
+                kind,
+                content,
+                file,
+            } => {
+                let mut buffer = file.fill(self.garbage);
+                let used = buffer.len();
+                buffer.resize(*room, self.garbage);
+                let mut writer = DeviceFileWriter::resume(&mut buffer, used);
+                writer.append(*kind, &content.fill(self.garbage))?;
+                Ok(Answer::FileWritten(writer.bytes().to_vec()))
+            }
         }
     }
 
@@ -274,6 +299,17 @@ fn part_at(place: u64, stream: &[u8]) -> Result<Answer, Error> {
             selector: part.selector,
             next: part.next,
             value: part.value.to_vec(),
+        },
+        None => Answer::End,
+    })
+}
+
+fn record_of(n: u64, file: &[u8]) -> Result<Answer, Error> {
+    Ok(match DeviceFile::parse(file)?.record(n) {
+        Some(record) => Answer::Record {
+            kind: record.kind,
+            start: record.start,
+            content: record.bytes.to_vec(),
         },
         None => Answer::End,
     })

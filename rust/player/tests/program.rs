@@ -123,6 +123,17 @@ walk-queue 1 0 room 2
 walk-queue 1 2
 walk-queue 0 0
 walk-queue 4294967296 0
+read-device-file 00696370 07000000 ff*4
+read-device-file 00*12
+read-device-record 0 00696370 00*8 04000000 10000000 00*4 03000000
+read-device-record 1 00696370 00*8 04000000 10000000 00*4 03000000
+read-device-record 0 00696370 00*8 04000000 10000000 00*4 030000
+start-device-file 14 0x64740000 1 2
+start-device-file 11 0x64740000 1 2
+append-device-record 64 1 11*20 to 00007464 00*8
+append-device-record 64 5 07000000 to 00007464 00*8 01000000 1c000000 11*20
+append-device-record 39 5 07000000 to 00007464 00*8 01000000 1c000000 11*20
+append-device-record 64 2 - to 00007464 00*8
 ";
 
 const EVERY_OUTCOME_PLAYED: &str = "\
@@ -167,6 +178,20 @@ const EVERY_OUTCOME_PLAYED: &str = "\
 40: refused 29 RingDistance at 0
 41: refused 28 QueueNotReady at 0
 42: refused 6 Index at 0
+43: ok 0 magic 0x70636900 version 7 flags 4294967295
+44: refused 33 Magic at 0
+45: record 4 start 12 : 00 00 00 00 03 00 00 00
+46: end
+47: refused 18 Truncated at 12
+48: ok 0 used 12 : 00 00 74 64 01 00 00 00 02 00 00 00
+49: refused 27 NoSpace at 0
+50: ok 0 used 40 : 00 00 74 64 00 00 00 00 00 00 00 00 01 00 00 00 1c 00 00 00 \
+11 11 11 11 11 11 11 11 11 11 11 11 11 11 11 11 11 11 11 11
+51: ok 0 used 52 : 00 00 74 64 00 00 00 00 00 00 00 00 01 00 00 00 28 00 00 00 \
+11 11 11 11 11 11 11 11 11 11 11 11 11 11 11 11 11 11 11 11 \
+05 00 00 00 0c 00 00 00 07 00 00 00
+52: refused 18 Truncated at 0
+53: refused 19 Header at 0
 ";
 
 #[test]
@@ -628,4 +653,91 @@ fn wrong_command_lines_of_check_save_are_told() {
     }
     let missing = run(&["check-save", path("missing.save").to_str().unwrap()]);
     assert_not_played(&missing, "missing.save: No such file");
+}
+
+// ---- device-file
+
+/// The example that is there to learn from.
+fn example() -> String {
+    let path = Path::new(env!("CARGO_MANIFEST_DIR")).join("../../examples/device-file.txt");
+    path.to_str().unwrap().to_string()
+}
+
+#[test]
+fn the_example_is_a_device_file() {
+    let expected = "\
+device file (pci): version 1, flags 0x0, 8 records
+12: REGION, 64 bytes: flags 0x1, offset 0x0, length 0x4000
+  40: PCI_BAR_INDEX, 16 bytes: flags 0x0, index 0
+  56: PHYS_ADDR, 20 bytes: flags 0x0, address 0xfe000000
+76: REGION, 40 bytes: flags 0x0, offset 0x70000000000, length 0x100
+  104: PCI_CONFIG_SPACE, 12 bytes: flags 0x0
+116: REGION, 28 bytes: flags 0x0, offset 0x80000000000, length 0x0
+144: INTERRUPT, 16 bytes: flags 0x0, handle 0
+160: INTERRUPT, 16 bytes: flags 0x0, handle 1
+";
+    let output = run(&["device-file", "--text", &example()]);
+    assert_run(&output, 0, expected, "");
+}
+
+#[test]
+fn a_device_file_is_printed_or_its_fault_is_told() {
+    let mut bytes = vec![0, 0, 0x74, 0x64, 1, 0, 0, 0, 3, 0, 0, 0];
+    bytes.extend([4, 0, 0, 0, 16, 0, 0, 0, 0, 0, 0, 0, 9, 0, 0, 0]);
+    let good = save_file("good.device", &bytes);
+    let expected = "device file (dt): version 1, flags 0x3, 1 record\n\
+                    12: INTERRUPT, 16 bytes: flags 0x0, handle 9\n";
+    assert_run(&run(&["device-file", &good]), 0, expected, "");
+    let short = save_file("short.device", &bytes[..27]);
+    let expected = "no device file: refused 18 Truncated at 12: \
+                    INTERRUPT has length 16, and 15 bytes are left in the file\n";
+    assert_run(&run(&["device-file", &short]), 1, expected, "");
+    let long = save_file("long.device", &vec![0; 65537]);
+    let expected = "no device file: refused 13 TooLong at 0: \
+                    it has 65537 bytes, and may have 65536\n";
+    assert_run(&run(&["device-file", &long]), 1, expected, "");
+    // The bytes of a text are its letters, where nobody says that it is one.
+    let output = run(&["device-file", &example()]);
+    assert_eq!(output.status.code(), Some(1));
+    let out = String::from_utf8_lossy(&output.stdout);
+    assert!(
+        out.starts_with("no device file: refused 33 Magic at 0: "),
+        "{out}"
+    );
+}
+
+#[test]
+fn faults_of_a_text_are_told() {
+    let text = file("faults.txt", "00 69 # magic\n6370 0\n?*4\n");
+    let expected = format!(
+        "{text}:2:6: BYTES: `0` has an odd number of hexadecimal digits\n\
+         {text}:3:1: stale bytes may stand only in the buffer of a request\n"
+    );
+    let output = run(&["device-file", "--text", &text]);
+    assert_run(&output, 2, "", &expected);
+}
+
+#[test]
+fn wrong_command_lines_of_device_file_are_told() {
+    for (arguments, why) in [
+        (&["device-file"][..], "FILE is missing"),
+        (
+            &["device-file", "--card", "64", "x"],
+            "--card goes with check-save",
+        ),
+        (
+            &["device-file", "--svg", "y", "x"],
+            "--garbage, --twice and --svg go with sessions",
+        ),
+        (&["play", "--text", "x"], "--text goes with device-file"),
+        (&["show", "--text", "x"], "--text goes with device-file"),
+        (
+            &["check-save", "--text", "x"],
+            "--text goes with device-file",
+        ),
+    ] {
+        assert_not_played(&run(arguments), &format!("glintbasket: {why}\n"));
+    }
+    let missing = run(&["device-file", path("missing.device").to_str().unwrap()]);
+    assert_not_played(&missing, "missing.device: No such file");
 }

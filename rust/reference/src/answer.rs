@@ -37,6 +37,7 @@ pub enum Refusal {
     DescriptorIndex = 30,
     ChainLength = 31,
     Indirect = 32,
+    Magic = 33,
 }
 
 /// A refusal and its place, which is 0 unless a rule states one (rule 2.2).
@@ -123,6 +124,7 @@ mod tests {
             (Refusal::DescriptorIndex, 30),
             (Refusal::ChainLength, 31),
             (Refusal::Indirect, 32),
+            (Refusal::Magic, 33),
         ];
         for (refusal, number) in names {
             assert_eq!(refusal.number(), number, "{refusal:?}");

@@ -12,6 +12,7 @@
 //! | [`lines`] | 3 and 4: interrupt lines |
 //! | [`moves`], [`queues`] | 4 |
 //! | [`registers`], [`parts`], [`check_save`] | 5 and 6 |
+//! | [`device_files`] | 9 |
 //! | [`session`] | none: docs/session-format.md |
 
 #![forbid(unsafe_code)]
@@ -20,6 +21,7 @@ pub mod answer;
 pub mod bench;
 pub mod bytes;
 pub mod check_save;
+pub mod device_files;
 pub mod lines;
 pub mod moves;
 pub mod parts;

@@ -58,6 +58,13 @@ walk-queue 1 1
 walk-queue 1 0 room 2
 walk-queue 0 0
 power-on
+read-device-file 00007464 01000000 02000000
+read-device-record 0 00007464 00*8 04000000 10000000 ff*8
+read-device-record 1 00007464 00*8 04000000 10000000 ff*8
+read-device-file 00*12
+start-device-file 13 0x70636900 1 0
+append-device-record 50 2 \"/\" to 00007464 00*8 01000000 1c000000 11*20
+append-device-record 48 2 \"/\" to 00007464 00*8 01000000 1c000000 11*20
 ";
 
 const EVERY_OUTCOME_PRINTED: &str = "\
@@ -90,6 +97,14 @@ const EVERY_OUTCOME_PRINTED: &str = "\
 26: refused 27 NoSpace at 0
 27: refused 28 QueueNotReady at 0
 28: ok 0
+29: ok 0 magic 0x64740000 version 1 flags 2
+30: record 4 start 12 : ff ff ff ff ff ff ff ff
+31: end
+32: refused 33 Magic at 0
+33: ok 0 used 12 : 00 69 63 70 01 00 00 00 00 00 00 00
+34: ok 0 used 49 : 00 00 74 64 00 00 00 00 00 00 00 00 01 00 00 00 25 00 00 00 \
+11 11 11 11 11 11 11 11 11 11 11 11 11 11 11 11 11 11 11 11 02 00 00 00 09 00 00 00 2f
+35: refused 27 NoSpace at 0
 ";
 
 #[test]

@@ -28,12 +28,16 @@
 // is lent as `&`.
 
 mod check_save;
+mod device_file;
 mod structs;
 
 pub use check_save::{check_save, IS_SAVE};
+pub use device_file::{
+    append_device_record, read_device_file, read_device_record, start_device_file,
+};
 pub use structs::{
-    Found, Line, Mapping, Outcome, PartStep, Register, Registers, ShownLine, State, Walked, LINES,
-    REGISTERS, SLOTS,
+    DeviceHeader, DeviceRecord, Found, Line, Mapping, Outcome, PartStep, Register, Registers,
+    ShownLine, State, Walked, WrittenFile, LINES, REGISTERS, SLOTS,
 };
 
 use crate::address::{DeviceAddress, MemoryAddress};

@@ -185,6 +185,50 @@ pub struct PartStep {
     pub next: usize,
 }
 
+/// What is read of a device file. Where it is refused, all else is 0.
+#[repr(C)]
+#[derive(Clone, Copy, Debug, PartialEq, Eq)]
+pub struct DeviceHeader {
+    /// The answer but for the header's fields; the result is the number of records.
+    pub outcome: Outcome,
+    /// The magic.
+    pub magic: u32,
+    /// The version.
+    pub version: u32,
+    /// The flags.
+    pub flags: u32,
+}
+
+/// A record of a device file: a refusal; the end; or a record.
+///
+/// What an answer has no use for is 0.
+#[repr(C)]
+#[derive(Clone, Copy, Debug, PartialEq, Eq)]
+pub struct DeviceRecord {
+    /// The answer but for what was found.
+    pub outcome: Outcome,
+    /// Whether the file has no such record.
+    pub end: bool,
+    /// The record's type.
+    pub kind: u32,
+    /// Where it begins in the file.
+    pub start: usize,
+    /// Where its content begins.
+    pub content_start: usize,
+    /// How many bytes that has; its end lies in the file.
+    pub content_length: usize,
+}
+
+/// The answer of a writer of device files. Where it is refused, no bytes in use are given.
+#[repr(C)]
+#[derive(Clone, Copy, Debug, PartialEq, Eq)]
+pub struct WrittenFile {
+    /// The answer but for the bytes in use; the result is 0.
+    pub outcome: Outcome,
+    /// How many bytes of the buffer are in use from now on.
+    pub used: usize,
+}
+
 impl Register {
     /// Whether it is set.
     pub fn is_set(&self) -> bool {
@@ -247,4 +291,16 @@ const _: () = {
     assert!(size_of::<Walked>() == 32);
     assert!(offset_of!(Walked, index) == 24);
     assert!(size_of::<PartStep>() == 56);
+    assert!(size_of::<DeviceHeader>() == 40);
+    assert!(offset_of!(DeviceHeader, magic) == 24);
+    assert!(offset_of!(DeviceHeader, version) == 28);
+    assert!(offset_of!(DeviceHeader, flags) == 32);
+    assert!(size_of::<DeviceRecord>() == 56);
+    assert!(offset_of!(DeviceRecord, end) == 24);
+    assert!(offset_of!(DeviceRecord, kind) == 28);
+    assert!(offset_of!(DeviceRecord, start) == 32);
+    assert!(offset_of!(DeviceRecord, content_start) == 40);
+    assert!(offset_of!(DeviceRecord, content_length) == 48);
+    assert!(size_of::<WrittenFile>() == 32);
+    assert!(offset_of!(WrittenFile, used) == 24);
 };

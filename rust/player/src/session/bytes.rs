@@ -93,18 +93,50 @@ pub enum Stale {
 
 /// The rest of the line as BYTES.
 pub fn read(words: &mut Words, stale: Stale) -> Pattern {
-    let mut pattern = Pattern::default();
     if words.peek().is_none() {
         words.missing("BYTES (`-` for no bytes)");
-        return pattern;
+        return Pattern::default();
     }
     if words.peek().is_some_and(|word| word.is("-")) {
         words.next();
         words.finish("`-` stands alone, for no bytes");
-        return pattern;
+        return Pattern::default();
     }
+    read_while(words, stale, |_| true)
+}
+
+/// BYTES up to a word, which is taken, too. None of them is stale.
+pub fn read_up_to(words: &mut Words, end: &str) -> Pattern {
+    let goes_on = |word: &Word| !word.is(end);
+    let mut pattern = Pattern::default();
+    match words.peek() {
+        None => words.missing("BYTES (`-` for no bytes)"),
+        Some(word) if word.is(end) => {
+            let column = word.column;
+            let message = format!("BYTES (`-` for no bytes) are missing before `{end}`");
+            words.fault(column, message);
+        }
+        Some(word) if word.is("-") => {
+            words.next();
+            if let Some(word) = words.peek().filter(|word| goes_on(word)) {
+                let column = word.column;
+                words.fault(column, "`-` stands alone, for no bytes");
+                words.skip_while(goes_on);
+            }
+        }
+        Some(_) => pattern = read_while(words, Stale::Forbidden, goes_on),
+    }
+    if words.next().is_none() {
+        words.missing(&format!("`{end}`"));
+    }
+    pattern
+}
+
+/// Words as BYTES, as long as they are meant.
+fn read_while(words: &mut Words, stale: Stale, meant: impl Fn(&Word) -> bool) -> Pattern {
+    let mut pattern = Pattern::default();
     let mut total = Total::default();
-    while let Some(word) = words.next() {
+    while let Some(word) = words.next_if(&meant) {
         match piece(&word, stale) {
             Ok(piece) => total.add(piece, &word, words, &mut pattern),
             Err(Some(message)) => words.fault(word.column, message),

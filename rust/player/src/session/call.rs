@@ -4,6 +4,7 @@ use super::bytes::{self, Pattern, Stale, BYTES_MAX};
 use super::number::Number;
 use super::request;
 use super::words::{quoted, Words};
+use glintbasket::device_file::Header;
 use glintbasket::{Card, DeviceAddress, MemoryAddress};
 
 /// One call, with its arguments.
@@ -47,10 +48,23 @@ pub enum Call {
     Start,
     Step(u64, Pattern),
     CheckSave(Card, Pattern),
+    ReadDeviceFile(Pattern),
+    ReadDeviceRecord(u64, Pattern),
+    StartDeviceFile {
+        room: usize,
+        header: Header,
+    },
+    /// The file is the bytes in use, cut off where the room ends.
+    AppendDeviceRecord {
+        room: usize,
+        kind: u32,
+        content: Pattern,
+        file: Pattern,
+    },
 }
 
 /// The first words of calls, and their forms.
-const FORMS: [(&str, &str); 18] = [
+const FORMS: [(&str, &str); 22] = [
     ("power-on", "`power-on [card CARD]`"),
     ("request", "`request TARGET NUMBER BYTES`"),
     ("look-up", "`look-up DEVICE`"),
@@ -69,6 +83,16 @@ const FORMS: [(&str, &str); 18] = [
     ("start", "`start`"),
     ("step", "`step PLACE BYTES`"),
     ("check-save", "`check-save [card CARD] BYTES`"),
+    ("read-device-file", "`read-device-file BYTES`"),
+    ("read-device-record", "`read-device-record N BYTES`"),
+    (
+        "start-device-file",
+        "`start-device-file ROOM MAGIC VERSION FLAGS`",
+    ),
+    (
+        "append-device-record",
+        "`append-device-record ROOM TYPE BYTES to BYTES`",
+    ),
 ];
 
 /// The call of a line; none if one of its words has a fault.
@@ -158,6 +182,36 @@ fn arguments(name: &str, words: &mut Words) -> Option<Call> {
             let card = super::card(words).unwrap_or_default();
             Some(Call::CheckSave(card, given(words)))
         }
+        "read-device-file" => Some(Call::ReadDeviceFile(given(words))),
+        "read-device-record" => {
+            let (n, file) = (words.number(&Number::any("N")), given(words));
+            Some(Call::ReadDeviceRecord(n?, file))
+        }
+        "start-device-file" => {
+            let room = length("ROOM", words);
+            let magic = four_bytes("MAGIC", words);
+            let version = four_bytes("VERSION", words);
+            let flags = four_bytes("FLAGS", words);
+            Some(Call::StartDeviceFile {
+                room: room?,
+                header: Header {
+                    magic: magic?,
+                    version: version?,
+                    flags: flags?,
+                },
+            })
+        }
+        "append-device-record" => {
+            let (room, kind) = (length("ROOM", words), four_bytes("TYPE", words));
+            let content = bytes::read_up_to(words, "to");
+            let file = given(words);
+            Some(Call::AppendDeviceRecord {
+                room: room?,
+                kind: kind?,
+                content,
+                file,
+            })
+        }
         _ => unreachable!("FORMS has no other call"),
     }
 }
@@ -174,6 +228,12 @@ fn memory(words: &mut Words) -> Option<MemoryAddress> {
 fn length(name: &'static str, words: &mut Words) -> Option<usize> {
     let length = words.number(&Number::up_to(name, BYTES_MAX))?;
     Some(length as usize)
+}
+
+/// A number of four bytes.
+fn four_bytes(name: &'static str, words: &mut Words) -> Option<u32> {
+    let number = words.number(&Number::up_to(name, u64::from(u32::MAX)))?;
+    Some(number as u32)
 }
 
 fn register(words: &mut Words) -> (Option<u64>, Option<u64>) {

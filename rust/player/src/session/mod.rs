@@ -4,12 +4,14 @@ mod bytes;
 mod call;
 mod number;
 mod request;
+mod text;
 mod words;
 
 pub use bytes::Pattern;
 pub use call::Call;
 pub use number::byte;
 pub use request::output_size;
+pub use text::read as read_text;
 
 use glintbasket::{Card, DEFAULT_RECORDS, RECORDS_LIMIT};
 use number::Number;

@@ -1,6 +1,7 @@
 //! Reading: every kind of word, and faults with their lines and columns.
 
 use super::*;
+use glintbasket::device_file::Header;
 use glintbasket::{DeviceAddress, MemoryAddress};
 
 fn faults(file: &str) -> Vec<(usize, usize, String)> {
@@ -249,6 +250,40 @@ fn every_call_is_read() {
         checked("check-save card 128 00 01"),
         (Card::Features128, vec![0, 1])
     );
+    assert!(matches!(
+        call("read-device-file 00"),
+        Call::ReadDeviceFile(_)
+    ));
+    assert!(matches!(
+        call("read-device-record 18446744073709551615 00"),
+        Call::ReadDeviceRecord(u64::MAX, _)
+    ));
+    let start = Call::StartDeviceFile {
+        room: 12,
+        header: Header {
+            magic: 0x7063_6900,
+            version: 1,
+            flags: u32::MAX,
+        },
+    };
+    assert_eq!(call("start-device-file 12 0x70636900 1 4294967295"), start);
+    let appended = |line| match call(line) {
+        Call::AppendDeviceRecord {
+            room: 64,
+            kind: 2,
+            content,
+            file,
+        } => (content.fill(0), file.fill(0)),
+        other => panic!("{other:?}"),
+    };
+    assert_eq!(
+        appended("append-device-record 64 2 \"to\" 00*2 to 01 02"),
+        (b"to\0\0".to_vec(), vec![1, 2])
+    );
+    assert_eq!(
+        appended("append-device-record 64 2 - to -"),
+        (vec![], vec![])
+    );
 }
 
 #[test]
@@ -266,6 +301,15 @@ fn words_are_missing_or_too_many() {
     assert_eq!(columns("walk-queue 0 0 room"), [20]);
     assert_eq!(columns("walk-queue 0 65536 6"), [14, 20]);
     assert_eq!(columns("walk-queue 0 0 room 6 6"), [23]);
+    assert_eq!(columns("read-device-file"), [17]);
+    assert_eq!(columns("start-device-file 12 0x100000000 0"), [22, 35]);
+    assert_eq!(columns("append-device-record 64"), [24]);
+    assert_eq!(columns("append-device-record 64 2 00"), [29]);
+    assert_eq!(columns("append-device-record 64 2 to 00"), [27]);
+    assert_eq!(columns("append-device-record 64 2 00 to"), [32]);
+    assert_eq!(columns("append-device-record 64 2 - 00 to 00"), [29]);
+    assert_eq!(columns("append-device-record 64 2 0g to ?*1"), [27, 33]);
+    assert_eq!(columns("append-device-record 64 2 00 to 00 to"), [36]);
     let (column, message) = fault("card-read 1 2 3 4");
     assert_eq!(column, 15);
     assert!(message.contains("card-read DEVICE LENGTH"));

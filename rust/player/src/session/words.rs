@@ -308,6 +308,12 @@ impl<'l> Words<'l> {
         Some(word)
     }
 
+    /// The next word, if it is such a one.
+    pub fn next_if(&mut self, wanted: impl Fn(&Word) -> bool) -> Option<Word> {
+        self.peek().filter(|word| wanted(word))?;
+        self.next()
+    }
+
     pub fn fault(&mut self, column: usize, message: impl Into<String>) {
         self.line.faults.push((column, message.into()));
     }
@@ -350,6 +356,11 @@ impl<'l> Words<'l> {
     /// Passes over the rest, which cannot be judged.
     pub fn skip(&mut self) {
         self.at = self.line.words.len();
+    }
+
+    /// Passes over words, as long as they are such.
+    pub fn skip_while(&mut self, skipped: impl Fn(&Word) -> bool) {
+        while self.next_if(&skipped).is_some() {}
     }
 
     /// No word may be left.

@@ -102,6 +102,26 @@ pub enum Call {
         card: Words,
         stream: Vec<u8>,
     },
+    ReadDeviceFile {
+        file: Vec<u8>,
+    },
+    ReadDeviceRecord {
+        n: u64,
+        file: Vec<u8>,
+    },
+    StartDeviceFile {
+        room: usize,
+        magic: u64,
+        version: u64,
+        flags: u64,
+    },
+    /// The file is the bytes in use, cut off where the room ends.
+    AppendDeviceRecord {
+        room: usize,
+        kind: u64,
+        content: Vec<u8>,
+        file: Vec<u8>,
+    },
 }
 
 /// Something in a session file that is not as the format says.

@@ -8,6 +8,9 @@ use crate::bench::{
     fresh_start, mark_bytes, start, stop, DeviceAddress, Mapping, MemoryAddress, State,
 };
 use crate::check_save::{check_save, SaveCheck};
+use crate::device_files::{
+    append_device_record, read_device_file, read_device_record, start_device_file,
+};
 use crate::lines::{show_line, Line};
 use crate::moves::{
     card_read, card_write, forget, host_load, host_store, look_up, Found, NotFound,
@@ -131,6 +134,29 @@ impl Player {
                 SaveCheck::Save => "save".to_string(),
                 SaveCheck::DiffersAt(place) => format!("differs at {place}"),
             },
+            Call::ReadDeviceFile { file } => device_header(file),
+            Call::ReadDeviceRecord { n, file } => device_record(file, *n),
+            Call::StartDeviceFile {
+                room,
+                magic,
+                version,
+                flags,
+            } => {
+                let mut buffer = self.buffer(*room);
+                let used = start_device_file(&mut buffer, *magic, *version, *flags);
+                used_bytes(used, &buffer)
+            }
+            Call::AppendDeviceRecord {
+                room,
+                kind,
+                content,
+                file,
+            } => {
+                let mut buffer = file.clone();
+                buffer.resize(*room, self.garbage);
+                let used = append_device_record(&mut buffer, file.len(), *kind, content);
+                used_bytes(used, &buffer)
+            }
         }
     }
 
@@ -225,6 +251,39 @@ fn walker_step(place: u64, stream: &[u8]) -> String {
             part.next,
             shown(part.value)
         ),
+        Err(refused) => refused.to_string(),
+    }
+}
+
+fn device_header(file: &[u8]) -> String {
+    match read_device_file(file) {
+        Ok(read) => format!(
+            "ok {} magic {:#x} version {} flags {}",
+            read.records.len(),
+            read.magic,
+            read.version,
+            read.flags
+        ),
+        Err(refused) => refused.to_string(),
+    }
+}
+
+fn device_record(file: &[u8], n: u64) -> String {
+    match read_device_record(file, n) {
+        Ok(None) => "end".to_string(),
+        Ok(Some(record)) => {
+            let content = &file[record.content_start..][..record.content_length];
+            let (kind, start) = (record.kind, record.start);
+            format!("record {kind} start {start} : {}", shown(content))
+        }
+        Err(refused) => refused.to_string(),
+    }
+}
+
+/// What a writer of device files left: its result is 0.
+fn used_bytes(answer: Answer<usize>, buffer: &[u8]) -> String {
+    match answer {
+        Ok(used) => format!("ok 0 used {used} : {}", shown(&buffer[..used])),
         Err(refused) => refused.to_string(),
     }
 }

@@ -15,7 +15,8 @@ const DEFAULT_GARBAGE: u8 = 0xa5;
 
 const CALLS: &str = "power-on, request, look-up, show-line, walk-queue, card-read, card-write, \
                      host-store, host-load, forget, set-register, read-register, load-parts, \
-                     save-parts, stop, start, step, check-save";
+                     save-parts, stop, start, step, check-save, read-device-file, \
+                     read-device-record, start-device-file, append-device-record";
 
 /// Reads a file's bytes.
 pub fn read(file: &[u8]) -> Result<Session, Vec<Fault>> {
@@ -240,6 +241,11 @@ impl Arguments {
         })
     }
 
+    /// A number of four bytes.
+    fn word(&mut self, name: &str) -> u64 {
+        self.number_up_to(name, u64::from(u32::MAX))
+    }
+
     fn length(&mut self, name: &str) -> usize {
         self.number_up_to(name, BUFFER_LIMIT) as usize
     }
@@ -304,6 +310,25 @@ impl Arguments {
             self.fault(column, "stale bytes may stand only in a request's buffer");
         }
         bytes.into_iter().filter_map(|(_, byte)| byte).collect()
+    }
+
+    /// BYTES up to a word, which is taken, too.
+    fn bytes_up_to(&mut self, name: &str) -> Vec<u8> {
+        let is_it = |word: &Word| word.form == Form::Plain(name.to_string());
+        let from = self.taken.min(self.words.len());
+        let Some(count) = self.words[from..].iter().position(is_it) else {
+            let bytes = self.bytes();
+            self.missing(format!("`{name}` is missing"));
+            return bytes;
+        };
+        let behind = self.words.split_off(from + count);
+        let end = std::mem::replace(&mut self.end, behind[0].column);
+        let bytes = self.bytes();
+        self.end = end;
+        self.words.truncate(from);
+        self.words.extend(behind);
+        self.taken = from + 1;
+        bytes
     }
 
     /// All words that are left as BYTES, each byte with the column of its word.
@@ -395,6 +420,23 @@ impl Arguments {
             "check-save" => Call::CheckSave {
                 card: self.card(),
                 stream: self.bytes(),
+            },
+            "read-device-file" => Call::ReadDeviceFile { file: self.bytes() },
+            "read-device-record" => Call::ReadDeviceRecord {
+                n: self.number("N"),
+                file: self.bytes(),
+            },
+            "start-device-file" => Call::StartDeviceFile {
+                room: self.length("ROOM"),
+                magic: self.word("MAGIC"),
+                version: self.word("VERSION"),
+                flags: self.word("FLAGS"),
+            },
+            "append-device-record" => Call::AppendDeviceRecord {
+                room: self.length("ROOM"),
+                kind: self.word("TYPE"),
+                content: self.bytes_up_to("to"),
+                file: self.bytes(),
             },
             _ => {
                 self.fault(
@@ -757,6 +799,30 @@ mod tests {
     }
 
     #[test]
+    fn a_record_is_appended_to_a_file() {
+        let append = |content: &[u8], file: &[u8]| Call::AppendDeviceRecord {
+            room: 64,
+            kind: 2,
+            content: content.to_vec(),
+            file: file.to_vec(),
+        };
+        let read = |words: &str| call(&format!("append-device-record 64 2 {words}"));
+        assert_eq!(read("\"to\" to 00*2 01"), append(b"to", &[0, 0, 1]));
+        assert_eq!(read("- to -"), append(&[], &[]));
+        let start = Call::StartDeviceFile {
+            room: 12,
+            magic: 0x7063_6900,
+            version: 0xffff_ffff,
+            flags: 0,
+        };
+        let line = "start-device-file 12 0x70636900 4294967295 0";
+        assert_eq!(call(line), start);
+        let n = u64::MAX;
+        let record = Call::ReadDeviceRecord { n, file: vec![7] };
+        assert_eq!(call("read-device-record 0xffffffffffffffff 07"), record);
+    }
+
+    #[test]
     fn faults_of_requests_by_name() {
         let cases = [
             ("request card 107 -", 9),
@@ -782,6 +848,17 @@ mod tests {
             ("walk-queue 0 0 room 1048577", 21),
             ("walk-queue 0 0 6", 16),
             ("walk-queue 0 0 room 6 6", 23),
+            ("read-device-file", 17),
+            ("read-device-record 0", 21),
+            ("start-device-file 12 0x100000000 0 0", 22),
+            ("start-device-file 12 0 0", 25),
+            ("append-device-record 64 2 00", 29),
+            ("append-device-record 64 2 to 00", 27),
+            ("append-device-record 64 2 00 to", 32),
+            ("append-device-record 64 2 0g to 00", 27),
+            ("append-device-record 64 2 00 to 00 to", 36),
+            ("append-device-record 64", 24),
+            ("append-device-record 1048577 2 00 to 00", 22),
             ("request device", 15),
             ("request", 8),
             ("set-register", 13),

@@ -1,0 +1,14 @@
+pub mod Records
+pub mod Scanning
+pub mod Reading
+pub mod Handing
+pub mod Writing
+pub mod Appending
+pub mod Lists
+pub mod Growth
+pub mod Kept
+pub mod ReadsBack
+pub mod Blind
+pub mod Unique
+pub mod WritesBack
+pub mod Examples
