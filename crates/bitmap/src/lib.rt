@@ -1,5 +1,7 @@
 // A bitmap in bytes, eight bits to a byte and the lowest first: whether the bits of a range are set, and setting or clearing them. The ends
 // of a range go by masks, the bytes between them whole.
+#![tactic(auto)]
+
 ghost use Rattle.std.specs.Prelude.{◌≡◌, true, ◌+◌, ◌*◌, ◌-◌, ◌^◌, ◌≤◌, ◌<◌, length, eqb};
 ghost use Rattle.answer.specs.Tests.{pick};
 ghost use Rattle.bitmap.specs.Bits.{with_bits, Ones, bit_of, with_run, OnesOf};
@@ -24,6 +26,7 @@ fn ones(x: u8, k: usize, e: usize) -> bool
 }
 
 // `x` with its bits from `k` up to `e` set, or cleared.
+#[tactic(auto, unfolding(answer::specs::Tests::pick))]
 fn with_bits(x: u8, k: usize, e: usize, v: bool) -> u8
     requires { (k ≤ e) × (e ≤ 8) }
     ensures { result ≡ with_bits k e (pick v 1 0) x }
@@ -115,6 +118,7 @@ pub fn ones_ahead(map: &[u8], a: usize, n: usize) -> usize
 }
 
 // Sets or clears the bits `k` up to `e` of byte `q`.
+#[tactic(auto, unfolding(crate::specs::Bits::with_run))]
 fn set_in_byte(map: &mut [u8], q: usize, k: usize, e: usize, v: bool)
     requires { (e ≤ 8) × (k < e → q < length map.old) }
     ensures { map.new ≡ with_run map.old (8 * q + k) (e - k) (pick v 1 0) }
@@ -125,6 +129,7 @@ fn set_in_byte(map: &mut [u8], q: usize, k: usize, e: usize, v: bool)
 }
 
 // Sets or clears all bits of the `c` bytes from `q` on.
+#[tactic(auto, unfolding(answer::specs::Tests::pick))]
 fn set_bytes(map: &mut [u8], q: usize, c: usize, v: bool)
     requires { q + c ≤ length map.old }
     ensures { map.new ≡ with_run map.old (8 * q) (8 * c) (pick v 1 0) }

@@ -1,4 +1,3 @@
 mod Answers
 pub mod Calls
-pub mod Contracts
 mod Walking

@@ -1,6 +1,8 @@
 // What C and Rust link: every call with C's calling convention. Each borrows the kept state and is lent the records, and with them memory,
 // marks and a buffer where its rule says so; a slice is passed as a pointer and a length. None asks anything of its caller (rule 8.1), and
 // each contract determines the answer, every lent byte and record, and the state (rule 8.2). include/glintbasket.h declares these functions.
+#![tactic(auto)]
+
 ghost use Rattle.std.specs.Prelude.{◌≡◌, true, false, not, List, [], ◌*◌, ◌≤◌, length as length_of};
 ghost use Rattle.answer.specs.Tests.{◌and◌, pick};
 ghost use Rattle.answer.specs.Codes.{BadBench};
@@ -45,7 +47,7 @@ use virtqueue::Walk;
 
 // An answer: a result, or the number and the place of a refusal.
 #[repr(C)]
-#[derive(Drop)]
+#[derive(Clone, Copy)]
 pub struct Outcome {
     pub refused: bool,
     pub code: u32,
@@ -56,7 +58,7 @@ pub struct Outcome {
 // Look-up's answer: its result is a memory address, rights, and the bytes left from the device address to the end of its mapping. Beside it
 // and beside refusal 14 stands how many records were looked at.
 #[repr(C)]
-#[derive(Drop)]
+#[derive(Clone, Copy)]
 pub struct Found {
     pub outcome: Outcome,
     pub address: MemoryAddress,
@@ -68,7 +70,7 @@ pub struct Found {
 // What is shown of an interrupt line: its event number, in the bits of a signed number, how often it was triggered, whether it is masked and
 // whether it is pending. All are 0 where it is refused.
 #[repr(C)]
-#[derive(Drop)]
+#[derive(Clone, Copy)]
 pub struct ShownLine {
     pub outcome: Outcome,
     pub number: u32,
@@ -79,7 +81,7 @@ pub struct ShownLine {
 
 // What a walk of a queue answers: its result is the number of buffers, and beside it stands the ring's index.
 #[repr(C)]
-#[derive(Drop)]
+#[derive(Clone, Copy)]
 pub struct Walked {
     pub outcome: Outcome,
     pub index: u16,
@@ -88,7 +90,7 @@ pub struct Walked {
 // One step over a stream of parts: a refusal; the end; or a part, with the bounds of its value in the stream. `next` is the place of the
 // next step. Numbers that a step has no use for are 0.
 #[repr(C)]
-#[derive(Drop)]
+#[derive(Clone, Copy)]
 pub struct PartStep {
     pub refused: bool,
     pub end: bool,
@@ -104,7 +106,7 @@ pub struct PartStep {
 
 // What is read of a device file: how many records it has, as the result, and its header's fields, which are 0 where it is refused.
 #[repr(C)]
-#[derive(Drop)]
+#[derive(Clone, Copy)]
 pub struct DeviceHeader {
     pub outcome: Outcome,
     pub magic: u32,
@@ -115,7 +117,7 @@ pub struct DeviceHeader {
 // A record of a device file: its type, where it begins, and the bounds of its content in the file; or the end, where the file has no more
 // records. What an answer has no use for is 0.
 #[repr(C)]
-#[derive(Drop)]
+#[derive(Clone, Copy)]
 pub struct DeviceRecord {
     pub outcome: Outcome,
     pub end: bool,
@@ -127,7 +129,7 @@ pub struct DeviceRecord {
 
 // What writing a device file answers: how many bytes of the buffer are in use stands beside the outcome, 0 where it is refused.
 #[repr(C)]
-#[derive(Drop)]
+#[derive(Clone, Copy)]
 pub struct WrittenFile {
     pub outcome: Outcome,
     pub used: usize,
@@ -237,6 +239,7 @@ fn device_at(address: u64) -> DeviceAddress
 // ---- the calls. Each borrows the kept state and the records, and is lent memory and marks where its rule says so.
 
 // Fresh start of the first card.
+#[tactic(auto, unfolding(walks::proofs::Walk::tables_of))]
 #[unsafe(no_mangle)]
 pub extern "C" fn glint_power_on(
     state: &mut State,
@@ -254,6 +257,7 @@ pub extern "C" fn glint_power_on(
 }
 
 // Fresh start of the second card, which has 128 feature bits.
+#[tactic(auto, unfolding(walks::proofs::Walk::tables_of))]
 #[unsafe(no_mangle)]
 pub extern "C" fn glint_power_on_128(
     state: &mut State,
@@ -306,6 +310,7 @@ fn answered(a: Admission, buf: &mut [u8]) -> Outcome
 }
 
 // An admitted request that changes nothing of the container: a reset of the device, or one that its buffer alone answers.
+#[tactic(auto, unfolding(walks::proofs::Walk::tables_of))]
 fn answer_request(state: &mut State, a: Admission, buf: &mut [u8]) -> Outcome
     requires { a.verdict ≡ Pass → size_checks (entry_at a.index) buf.old ≡ Pass }
     ensures { (rs : List MappingRecord) → IsNot set_iommu_index a → IsNot map_index a → IsNot unmap_index a → IsNot set_irqs_index a → Handled a buf.old state.old rs result buf.new state.new rs }
@@ -318,6 +323,7 @@ fn answer_request(state: &mut State, a: Admission, buf: &mut [u8]) -> Outcome
 }
 
 // One that changes nothing of the container: it sets interrupt lines up or acts on them, or changes no line but by a reset.
+#[tactic(auto, unfolding(walks::proofs::Walk::tables_of))]
 fn irqs_or_answer(state: &mut State, a: Admission, buf: &mut [u8]) -> Outcome
     requires { a.verdict ≡ Pass → size_checks (entry_at a.index) buf.old ≡ Pass }
     ensures { (rs : List MappingRecord) → IsNot set_iommu_index a → IsNot map_index a → IsNot unmap_index a → Handled a buf.old state.old rs result buf.new state.new rs }
@@ -332,6 +338,7 @@ fn irqs_or_answer(state: &mut State, a: Admission, buf: &mut [u8]) -> Outcome
 }
 
 // One that changes no mapping: it sets the container's IOMMU type, or changes nothing of the container.
+#[tactic(auto, unfolding(walks::proofs::Walk::tables_of))]
 fn set_or_answer(state: &mut State, a: Admission, buf: &mut [u8]) -> Outcome
     requires { a.verdict ≡ Pass → size_checks (entry_at a.index) buf.old ≡ Pass }
     ensures { (rs : List MappingRecord) → IsNot map_index a → IsNot unmap_index a → Handled a buf.old state.old rs result buf.new state.new rs }
@@ -347,6 +354,7 @@ fn set_or_answer(state: &mut State, a: Admission, buf: &mut [u8]) -> Outcome
 }
 
 // One that adds no mapping: an unmap, or one that changes none.
+#[tactic(auto, unfolding(walks::proofs::Walk::tables_of))]
 fn unmap_or_answer(
     state: &mut State,
     records: &mut [Mapping],
@@ -363,6 +371,7 @@ fn unmap_or_answer(
 }
 
 // An admitted request, or one that checks 1 to 4 refused.
+#[tactic(auto, unfolding(walks::proofs::Walk::tables_of))]
 fn handle(state: &mut State, records: &mut [Mapping], a: Admission, buf: &mut [u8]) -> Outcome
     requires { Fits a buf.old state.old records.old }
     ensures { Handled a buf.old state.old records.old result buf.new state.new records.new }
@@ -374,6 +383,7 @@ fn handle(state: &mut State, records: &mut [Mapping], a: Admission, buf: &mut [u
 }
 
 // A request, by target (0 the container, 1 the device) and number.
+#[tactic(auto, unfolding(walks::proofs::Walk::tables_of))]
 #[unsafe(no_mangle)]
 pub extern "C" fn glint_request(
     state: &mut State,
@@ -405,6 +415,7 @@ fn place_of(s: Search) -> usize
 }
 
 // Look-up.
+#[tactic(auto, unfolding(walks::proofs::Walk::tables_of))]
 #[unsafe(no_mangle)]
 pub extern "C" fn glint_look_up(state: &State, records: &[Mapping], device: u64) -> Found
     ensures { FindsAt (device_address device) state.now records.now result }
@@ -425,6 +436,7 @@ fn line_shown(ok: bool, lines: Lines, index: u32, line: u32) -> ShownLine
 }
 
 // Shows an interrupt line.
+#[tactic(auto, unfolding(walks::proofs::Walk::tables_of))]
 #[unsafe(no_mangle)]
 pub extern "C" fn glint_show_line(
     state: &State,
@@ -483,6 +495,7 @@ fn writing() -> bool
 }
 
 // The checks of a transfer, behind refusal 1.
+#[tactic(auto, unfolding(walks::proofs::Walk::tables_of))]
 fn check_transfer(
     ok: bool,
     count: usize,
@@ -502,6 +515,7 @@ fn check_transfer(
 }
 
 // What a walk that has ended answers.
+#[tactic(auto, unfolding(answer::specs::Answer::settle))]
 fn walk_answer(w: Walk) -> Walked
     ensures { result ≡ walked_struct (told_walk w) }
 {
@@ -535,6 +549,7 @@ fn judging() -> bool
 }
 
 // Walks a queue twice: the first walk judges and counts, and where all is good the second stores.
+#[tactic(auto, unfolding(walks::proofs::Walk::tables_of))]
 #[unsafe(no_mangle)]
 pub extern "C" fn glint_walk_queue(
     state: &State,
@@ -568,6 +583,7 @@ pub extern "C" fn glint_walk_queue(
 }
 
 // Card read.
+#[tactic(auto, unfolding(walks::proofs::Walk::tables_of))]
 #[unsafe(no_mangle)]
 pub extern "C" fn glint_device_read(
     state: &State,
@@ -590,6 +606,7 @@ pub extern "C" fn glint_device_read(
 }
 
 // Card write.
+#[tactic(auto, unfolding(walks::proofs::Walk::tables_of))]
 #[unsafe(no_mangle)]
 pub extern "C" fn glint_device_write(
     state: &State,
@@ -619,6 +636,7 @@ fn host_write(ok: bool, bytes: &mut [u8], shadow: &mut [u8], address: u64, buf: 
 }
 
 // Host store.
+#[tactic(auto, unfolding(walks::proofs::Walk::tables_of))]
 #[unsafe(no_mangle)]
 pub extern "C" fn glint_host_write(
     state: &State,
@@ -642,6 +660,7 @@ fn host_read(ok: bool, bytes: &[u8], shadow: &[u8], address: u64, buf: &mut [u8]
 }
 
 // Host load.
+#[tactic(auto, unfolding(walks::proofs::Walk::tables_of))]
 #[unsafe(no_mangle)]
 pub extern "C" fn glint_host_read(
     state: &State,
@@ -665,6 +684,7 @@ fn invalidate_range(ok: bool, bytes: &[u8], shadow: &mut [u8], address: u64, len
 }
 
 // Forget.
+#[tactic(auto, unfolding(walks::proofs::Walk::tables_of))]
 #[unsafe(no_mangle)]
 pub extern "C" fn glint_invalidate(
     state: &State,
@@ -694,6 +714,7 @@ fn answer_of(c: Changed) -> Outcome
 }
 
 // Sets a register.
+#[tactic(auto, unfolding(walks::proofs::Walk::tables_of))]
 #[unsafe(no_mangle)]
 pub extern "C" fn glint_set_register(
     state: &mut State,
@@ -727,6 +748,7 @@ fn read_register(
 }
 
 // Reads a register.
+#[tactic(auto, unfolding(walks::proofs::Walk::tables_of))]
 #[unsafe(no_mangle)]
 pub extern "C" fn glint_read_register(
     state: &State,
@@ -744,7 +766,7 @@ pub extern "C" fn glint_read_register(
 }
 
 // What loading answers, and the registers to keep where it is success.
-#[derive(Drop)]
+#[derive(Clone, Copy)]
 struct LoadReply {
     outcome: Outcome,
     registers: Registers,
@@ -780,6 +802,7 @@ fn outcome_of(l: LoadReply) -> Outcome
 }
 
 // Loads a stream of parts.
+#[tactic(auto, unfolding(walks::proofs::Walk::tables_of))]
 #[unsafe(no_mangle)]
 pub extern "C" fn glint_load_parts(state: &mut State, records: &[Mapping], stream: &[u8]) -> Outcome
     ensures { TellsAlone loadParts stream.now state.old records.now result stream.now state.new records.now }
@@ -802,6 +825,7 @@ fn save_parts(ok: bool, words: u8, running: u8, registers: Registers, buf: &mut 
 }
 
 // Saves the registers as a stream of parts.
+#[tactic(auto, unfolding(walks::proofs::Walk::tables_of))]
 #[unsafe(no_mangle)]
 pub extern "C" fn glint_save_parts(state: &State, records: &[Mapping], buf: &mut [u8]) -> Outcome
     ensures { TellsAlone saveParts buf.old state.now records.now result buf.new state.now records.now }
@@ -820,6 +844,7 @@ fn stopped(ok: bool, was: u8) -> u8
 }
 
 // Stops the device.
+#[tactic(auto, unfolding(walks::proofs::Walk::tables_of))]
 #[unsafe(no_mangle)]
 pub extern "C" fn glint_stop(state: &mut State, records: &[Mapping]) -> Outcome
     ensures { TellsAlone stop [] state.old records.now result [] state.new records.now }
@@ -837,6 +862,7 @@ fn started(ok: bool, was: u8) -> u8
 }
 
 // Starts the device.
+#[tactic(auto, unfolding(walks::proofs::Walk::tables_of))]
 #[unsafe(no_mangle)]
 pub extern "C" fn glint_start(state: &mut State, records: &[Mapping]) -> Outcome
     ensures { TellsAlone start [] state.old records.now result [] state.new records.now }
@@ -866,6 +892,7 @@ fn no_part(refused: bool, code: u32, place: u64, next: usize) -> PartStep
 }
 
 // A step of the walker over a stream.
+#[tactic(auto, unfolding(reader::specs::Read::next_place))]
 #[unsafe(no_mangle)]
 pub extern "C" fn glint_step(stream: &[u8], place: usize) -> PartStep
     ensures { Steps stream.now place result }

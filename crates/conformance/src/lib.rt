@@ -1,4 +1,6 @@
 // Whether a stream is what saving writes; if not, how far some save agrees with it.
+#![tactic(auto)]
+
 ghost use Rattle.std.specs.Prelude.{◌≡◌, true, ◌⊎◌, ◌≤◌, ◌<◌, ◌+◌, length, take, eqb, leb};
 ghost use Rattle.answer.specs.Tests.{◌and◌, ◌or◌, pick};
 ghost use Rattle.answer.specs.Checks.{passes};
@@ -16,14 +18,14 @@ use registers::Card;
 
 // The answer: some register state's save is the stream, or the length of its longest beginning with which some save begins, which is the
 // place of the first byte that no save has there.
-#[derive(Drop)]
+#[derive(Clone, Copy)]
 pub enum Conformance {
     Save,
     DiffersAt(usize),
 }
 
 // What is found of a row at a place: its part, whole; its header and so many bytes in all; or so many bytes of its header.
-#[derive(Drop)]
+#[derive(Clone, Copy)]
 enum Part {
     Whole(usize),
     Broken(usize),
@@ -33,6 +35,7 @@ enum Part {
 // ---- headers
 
 // The header of a row's part.
+#[tactic(auto, unfolding(crate::specs::Bytes::header))]
 fn header(words: u8, row: usize) -> [u8; parts::HEADER_SIZE]
     requires { (is_card words ≡ true) × (row < row_count) }
     ensures { result ≡ header_of words row }
@@ -101,6 +104,7 @@ fn header_at(words: u8, row: usize, h: &[u8]) -> usize
 
 // ---- values, byte by byte
 
+#[tactic(auto, unfolding(crate::specs::Bytes::offered_byte, registers::specs::Values::offered, registers::specs::Values::offered_word, wire::specs::Field::bytes_of))]
 fn offered_byte(i: usize) -> u8
     ensures { result ≡ offered_byte i }
 {
@@ -112,6 +116,7 @@ fn offered_byte(i: usize) -> u8
     }
 }
 
+#[tactic(auto, unfolding(answer::specs::Tests::pick, registers::specs::Values::within))]
 fn is_feature_byte(exact: bool, i: usize, b: u8) -> bool
     ensures { result ≡ pick exact eqb within b (offered_byte i) }
 {
@@ -133,6 +138,7 @@ fn is_size_byte(b: u8) -> bool
 }
 
 // The most that the high byte of a queue's size may be behind its low byte.
+#[tactic(auto, unfolding(answer::specs::Tests::pick))]
 fn size_limit(low: u8) -> u8
     ensures { result ≡ pick (eqb low 0) 1 0 }
 {
@@ -140,12 +146,14 @@ fn size_limit(low: u8) -> u8
 }
 
 // The most that a queue's `enabled` may be behind its size.
+#[tactic(auto, unfolding(answer::specs::Tests::pick))]
 fn enabled_limit(size: u16) -> u8
     ensures { result ≡ pick (eqb size 0) 0 1 }
 {
     if size == 0 { 0 } else { 1 }
 }
 
+#[tactic(auto, unfolding(crate::specs::Bytes::queue_byte, answer::specs::Tests::pick))]
 fn is_queue_byte(v: &[u8], i: usize) -> bool
     requires { i < length v.now }
     ensures { result ≡ queue_byte v.now i }
@@ -184,6 +192,7 @@ fn is_good_byte(row: usize, v: &[u8], i: usize) -> bool
 }
 
 // Whether the row's value stands at the start of what is left of a stream.
+#[tactic(auto, unfolding(answer::specs::Checks::passes))]
 fn is_value(words: u8, row: usize, v: &[u8]) -> bool
     requires { (is_card words ≡ true) × (row < row_count) }
     ensures { result ≡ (leb (size_of words row) (length v.now) and passes (content_checks words (kind_of row) (take (size_of words row) v.now))) }
@@ -239,6 +248,7 @@ fn part_at(words: u8, row: usize, h: &[u8]) -> Part
 }
 
 // Whether every save has a part of the row.
+#[tactic(auto, unfolding(crate::specs::Bytes::required))]
 fn is_required(row: usize) -> bool
     ensures { result ≡ required row }
 {

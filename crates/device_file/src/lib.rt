@@ -1,5 +1,7 @@
 // Device files of the old layout: a header, and records that describe a device, of which some stand inside a REGION. The reader judges a
 // whole file in one pass before it hands anything out; the writer starts a file, and appends records to one that reads well.
+#![tactic(auto)]
+
 ghost use Rattle.std.specs.Prelude.{◌≡◌, ℕ, ◌+◌, ◌-◌, ◌^◌, ◌≤◌, ◌<◌, length as length_of, drop, eqb};
 ghost use Rattle.std.proofs.lemmas.List.Edits.{sets};
 ghost use Rattle.answer.specs.Tests.{pick};
@@ -32,12 +34,14 @@ const INTERRUPT: u32 = 4;
 
 // ---- what a record must satisfy
 
+#[tactic(auto, unfolding(crate::specs::Layout::is_magic))]
 fn is_magic(x: u32) -> bool
     ensures { result ≡ is_magic x }
 {
     (x == 0x70636900) | (x == 0x64740000)
 }
 
+#[tactic(auto, unfolding(crate::specs::Layout::is_type))]
 fn is_type(kind: u32) -> bool
     ensures { result ≡ is_type kind }
 {
@@ -45,12 +49,14 @@ fn is_type(kind: u32) -> bool
 }
 
 // Whether records of a type stand inside a REGION.
+#[tactic(auto, unfolding(crate::specs::Layout::is_sub))]
 fn is_sub(kind: u32) -> bool
     ensures { result ≡ is_sub kind }
 {
     !((kind == REGION) | (kind == INTERRUPT))
 }
 
+#[tactic(auto, unfolding(crate::specs::Read::at_level, answer::specs::Tests::pick))]
 fn is_at_level(kind: u32, inside: bool) -> bool
     ensures { result ≡ at_level kind inside }
 {
@@ -63,6 +69,7 @@ fn is_at_level(kind: u32, inside: bool) -> bool
 // By type, the length of a record that has one length alone, and the least length of a REGION and of a path.
 const LEAST_LENGTHS: [usize; 8] = [0, REGION_SIZE, PREFIX_SIZE, 16, 16, 12, 16, 20];
 
+#[tactic(auto, unfolding(crate::specs::Layout::least_length))]
 fn least_length(kind: u32) -> usize
     ensures { result ≡ least_length kind }
 {
@@ -72,6 +79,7 @@ fn least_length(kind: u32) -> usize
     LEAST_LENGTHS[kind as usize]
 }
 
+#[tactic(auto, unfolding(crate::specs::Layout::fits, answer::specs::Tests::pick))]
 fn fits(kind: u32, length: usize) -> bool
     ensures { result ≡ fitting kind length }
 {
@@ -99,7 +107,7 @@ fn is_valid_content(kind: u32, bytes: &[u8], at: usize) -> bool
 // How far the pass has come: the record at `at` is next, inside a REGION where `region_end` lies ahead. So many records were read; `found` is
 // where the one begins that is asked for, and `region` where the last record outside begins if it is a REGION. No record begins at 0, which
 // stands for none.
-#[derive(Drop)]
+#[derive(Clone, Copy)]
 struct Cursor {
     at: usize,
     region_end: usize,
@@ -109,7 +117,7 @@ struct Cursor {
 }
 
 // What the pass comes to.
-#[derive(Drop)]
+#[derive(Clone, Copy)]
 struct Scanned {
     verdict: Verdict,
     records: u64,
@@ -117,6 +125,7 @@ struct Scanned {
     region: usize,
 }
 
+#[tactic(auto, unfolding(crate::specs::Scan::scan_of))]
 fn refused(code: u32, place: u64) -> Scanned
     ensures { (n : ℕ) → result ≡ scan_of n (refusal code place) }
 {
@@ -128,6 +137,7 @@ fn refused(code: u32, place: u64) -> Scanned
     }
 }
 
+#[tactic(auto, unfolding(crate::specs::Read::header_checks, answer::specs::Limits::length_check))]
 fn check_header(file: &[u8]) -> Verdict
     ensures { result ≡ header_checks file.now }
 {
@@ -144,6 +154,7 @@ fn check_header(file: &[u8]) -> Verdict
 }
 
 // The bytes left of the room around the record at a place, which is its REGION or the file.
+#[tactic(auto, unfolding(crate::specs::Read::room_end, crate::specs::Read::in_region, answer::specs::Tests::pick))]
 fn room_at(file: &[u8], at: usize, region_end: usize) -> usize
     requires { at ≤ length_of file.now }
     ensures { result ≡ room_end file.now at region_end - at }
@@ -155,6 +166,7 @@ fn room_at(file: &[u8], at: usize, region_end: usize) -> usize
 }
 
 // The checks of the record at a place, in their order. Lengths are compared with what is left, so that no sum can wrap.
+#[tactic(auto, unfolding(crate::specs::Read::in_region, crate::specs::Read::record_fault, crate::specs::Read::record_checks))]
 fn check_record(file: &[u8], at: usize, region_end: usize) -> Verdict
     requires { (at ≤ length_of file.now) × (region_end ≤ length_of file.now) }
     ensures { result ≡ record_fault file.now at region_end }
@@ -185,6 +197,7 @@ fn check_record(file: &[u8], at: usize, region_end: usize) -> Verdict
 }
 
 // How long the record at a place is before its sub-records.
+#[tactic(auto, unfolding(crate::specs::Read::own_length, answer::specs::Tests::pick))]
 fn own_length(file: &[u8], at: usize) -> usize
     requires { at + prefix_size ≤ length_of file.now }
     ensures { result ≡ own_length file.now at }
@@ -195,6 +208,7 @@ fn own_length(file: &[u8], at: usize) -> usize
     wire::get_u32(file, at + 4) as usize
 }
 
+#[tactic(auto, unfolding(crate::specs::Read::region_end, answer::specs::Tests::pick))]
 fn end_after(file: &[u8], at: usize, region_end: usize) -> usize
     requires { at + prefix_size ≤ length_of file.now }
     ensures { result ≡ region_end file.now at region_end }
@@ -205,6 +219,7 @@ fn end_after(file: &[u8], at: usize, region_end: usize) -> usize
     region_end
 }
 
+#[tactic(auto, unfolding(crate::specs::Scan::region_after, answer::specs::Tests::pick))]
 fn region_after(kind: u32, at: usize, region: usize) -> usize
     ensures { result ≡ region_after kind at region }
 {
@@ -214,6 +229,7 @@ fn region_after(kind: u32, at: usize, region: usize) -> usize
     if kind == REGION { at } else { 0 }
 }
 
+#[tactic(auto, unfolding(answer::specs::Tests::pick))]
 fn found_after(c: Cursor, n: u64) -> usize
     ensures { result ≡ pick (eqb c.records n) c.at c.found }
 {
@@ -221,6 +237,7 @@ fn found_after(c: Cursor, n: u64) -> usize
 }
 
 // Behind the record at the cursor, whose checks passed; record `n` is the one that is asked for.
+#[tactic(auto, unfolding(crate::specs::Scan::behind))]
 fn behind(file: &[u8], c: Cursor, n: u64) -> Cursor
     requires { Inside file.now c × (record_fault file.now c.at c.region_end ≡ Pass) }
     ensures { result ≡ behind_of file.now n c }
@@ -236,6 +253,7 @@ fn behind(file: &[u8], c: Cursor, n: u64) -> Cursor
 }
 
 // A file ends behind a record outside, and nowhere else.
+#[tactic(auto, unfolding(crate::specs::Read::at_end, crate::specs::Read::in_region, answer::specs::Tests::pick))]
 fn is_end(file: &[u8], at: usize, region_end: usize) -> bool
     ensures { result ≡ at_end file.now at region_end }
 {
@@ -246,6 +264,7 @@ fn is_end(file: &[u8], at: usize, region_end: usize) -> bool
 }
 
 // Judges the whole file, and finds record `n`, the first being 0.
+#[tactic(auto, unfolding(crate::specs::Scan::behind))]
 fn scan(file: &[u8], n: u64) -> Scanned
     ensures { result ≡ scan_of n (read_file file.now) }
 {
@@ -278,7 +297,7 @@ fn scan(file: &[u8], n: u64) -> Scanned
 // ---- reading
 
 // A file's header, and how many records it has; all are 0 where the file is refused.
-#[derive(Drop)]
+#[derive(Clone, Copy)]
 pub struct Header {
     pub verdict: Verdict,
     pub records: u64,
@@ -287,6 +306,7 @@ pub struct Header {
     pub flags: u32,
 }
 
+#[tactic(auto, unfolding(crate::specs::Scan::header_of, crate::specs::Read::file_of))]
 pub fn read(file: &[u8]) -> Header
     ensures { result ≡ header_of (read_file file.now) }
 {
@@ -312,7 +332,7 @@ pub fn read(file: &[u8]) -> Header
 
 // A record: its type, its start, and the bounds of its content in the file, of a REGION those of its fixed content. `end` is whether the file
 // has no such record. Numbers that are of no use are 0.
-#[derive(Drop)]
+#[derive(Clone, Copy)]
 pub struct Record {
     pub verdict: Verdict,
     pub end: bool,
@@ -361,12 +381,13 @@ pub fn read_record(file: &[u8], n: u64) -> Record
 // ---- writing
 
 // What a writer comes to, and how many bytes of the buffer are then in use; 0 where it is refused.
-#[derive(Drop)]
+#[derive(Clone, Copy)]
 pub struct Written {
     pub verdict: Verdict,
     pub used: usize,
 }
 
+#[tactic(auto, unfolding(crate::specs::Scan::reply_of))]
 fn not_written(code: u32, place: u64) -> Written
     ensures { result ≡ reply_of (refusal code place) }
 {
@@ -376,6 +397,7 @@ fn not_written(code: u32, place: u64) -> Written
     }
 }
 
+#[tactic(auto, unfolding(crate::specs::Write::start_checks, answer::specs::Limits::length_check))]
 fn check_start(room: usize, magic: u32) -> Verdict
     ensures { result ≡ start_checks room magic }
 {
@@ -392,6 +414,7 @@ fn check_start(room: usize, magic: u32) -> Verdict
 }
 
 // Starts a file: its header, and no record.
+#[tactic(auto, unfolding(crate::specs::Write::start_file, crate::specs::Write::started))]
 pub fn start(buf: &mut [u8], magic: u32, version: u32, flags: u32) -> Written
     ensures { Writes buf.old (start_file buf.old magic version flags) result buf.new }
 {
@@ -422,6 +445,7 @@ fn scan_used(buf: &[u8], used: usize) -> Scanned
 }
 
 // Whether a length fits a record that is given without sub-records.
+#[tactic(auto, unfolding(crate::specs::Write::bare_fits, answer::specs::Tests::pick))]
 fn bare_fits(kind: u32, length: usize) -> bool
     ensures { result ≡ bare_fits kind length }
 {
@@ -432,6 +456,7 @@ fn bare_fits(kind: u32, length: usize) -> bool
 }
 
 // The checks of a record to append behind the bytes in use, whose last record outside begins at `region` if it is a REGION.
+#[tactic(auto, unfolding(crate::specs::Write::record_length, crate::specs::Write::append_checks))]
 fn check_append(room: usize, used: usize, region: usize, kind: u32, content: &[u8]) -> Verdict
     requires { used ≤ room }
     ensures { result ≡ append_checks room used (or_none region) kind content.now }
@@ -465,6 +490,7 @@ fn grow(buf: &mut [u8], region: usize, length: u32)
 }
 
 // Writes a record behind the bytes in use; a sub-record makes its REGION longer.
+#[tactic(auto, unfolding(crate::specs::Write::record_length, crate::specs::Write::appended))]
 fn put_record(buf: &mut [u8], used: usize, region: usize, kind: u32, content: &[u8])
     requires { HasRoom buf.old used region kind content.now }
     ensures { buf.new ≡ (appended buf.old used (or_none region) kind content.now).buffer }
@@ -480,6 +506,7 @@ fn put_record(buf: &mut [u8], used: usize, region: usize, kind: u32, content: &[
 }
 
 // Appends a record to the file in the buffer's first `used` bytes. Nothing is written before the last check has passed.
+#[tactic(auto, unfolding(crate::specs::Write::append_to, crate::specs::Write::record_length, crate::specs::Write::appended))]
 pub fn append(buf: &mut [u8], used: usize, kind: u32, content: &[u8]) -> Written
     ensures { Writes buf.old (append_record buf.old used kind content.now) result buf.new }
 {

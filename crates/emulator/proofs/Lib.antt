@@ -9,4 +9,3 @@ pub mod Walking
 pub mod PartCalls
 pub mod Returned
 pub mod SameMarks
-pub mod Contracts

@@ -1,5 +1,7 @@
 // The emulator: the kept state and its soundness, and what each call but requests does once refusal 1 is decided. The calls themselves,
 // which borrow the state and the records, are those that are exported (crate `capi`).
+#![tactic(auto)]
+
 ghost use Rattle.std.specs.Prelude.{ℕ, ◌≡◌, true, List, [], leb, eqb, length};
 ghost use Rattle.answer.specs.Tests.{◌and◌, pick, flagged, flag_byte};
 ghost use Rattle.answer.specs.Answer.{refused};
@@ -34,7 +36,7 @@ use virtqueue::{Queue, Walk};
 // type: 1 or 3, and the interrupt lines. The device runs where `running` is 1, and no other value of that byte says so. Any values may stand in the state: each
 // call says whether they make a sound one.
 #[repr(C)]
-#[derive(Drop)]
+#[derive(Clone, Copy)]
 pub struct State {
     pub memory_length: u64,
     pub count: usize,
@@ -53,21 +55,21 @@ const LAST_QUEUE: u32 = 3;
 
 // What look-up answers: memory address, rights and the bytes left of the mapping, or a refusal's number and place; and in either case how
 // many records it looked at.
-#[derive(Drop)]
+#[derive(Clone, Copy)]
 pub enum Location {
     At(MemoryAddress, u32, u64, u64),
     Refused(u32, u64, u64),
 }
 
 // What is shown of an interrupt line: the line, or a refusal's number and place.
-#[derive(Drop)]
+#[derive(Clone, Copy)]
 pub enum Shown {
     At(Line),
     Refused(u32, u64),
 }
 
 // An answer, and the registers to keep.
-#[derive(Drop)]
+#[derive(Clone, Copy)]
 pub struct Changed {
     pub answer: Answer,
     pub registers: Registers,
@@ -108,6 +110,7 @@ fn both(a: bool, b: bool) -> bool
 }
 
 // Whether a kept state is sound with the records that are lent.
+#[tactic(auto, unfolding(walks::proofs::Walk::tables_of))]
 pub fn sound(state: &State, records: &[Mapping]) -> bool
     ensures { result ≡ sound_machine (length records.now) (machine_of state.now records.now) }
 {
@@ -126,6 +129,7 @@ pub fn sound(state: &State, records: &[Mapping]) -> bool
 }
 
 // Whether memory and marks, by their lengths, can be lent.
+#[tactic(auto, unfolding(crate::specs::Machine::lendable, memory::specs::Shadow::shadow_length))]
 fn lendable(bytes: &[u8], shadow: &[u8]) -> bool
     ensures { result ≡ can_lend (lent_memory bytes shadow) }
 {
@@ -147,6 +151,7 @@ fn lendable_as_noted(noted: u64, bytes: &[u8], shadow: &[u8]) -> bool
 }
 
 // Whether a call that is given state, records, memory and marks may use them.
+#[tactic(auto, unfolding(walks::proofs::Walk::tables_of))]
 pub fn usable(state: &State, records: &[Mapping], bytes: &[u8], shadow: &[u8]) -> bool
     ensures { result ≡ can_use state_and_memory (emulator_of state.now records.now (lent_memory bytes shadow)) }
 {
@@ -214,6 +219,7 @@ pub fn fresh_128(length: usize) -> State
 }
 
 // Look-up: where a device address lies in memory, and with which rights. `m` is the first mapping that ends past it.
+#[tactic(auto, unfolding(crate::specs::Calls::given, crate::specs::Machine::usable, crate::specs::Machine::emulator_of, crate::specs::Effect::carried, answer::specs::Answer::verdict, answer::specs::Tests::pick, crate::specs::Machine::machine_of))]
 pub fn locate(ok: bool, d: DeviceAddress, m: Mapping, probes: u64) -> Location
     requires { ok ≡ true → holds m d ≡ true → in_range memory_limit m ≡ true }
     ensures { (s : StateRecord) (rs : List MappingRecord) → ok ≡ sound_machine (length rs) (machine_of s rs) → (ok ≡ true → shown_by m d ≡ translate (machine_of s rs).mappings d) → (ok ≡ true → probes ≡ probes_for (machine_of s rs).mappings d) → (mem : Memory) → Locates d s rs mem result }
@@ -232,6 +238,7 @@ pub fn locate(ok: bool, d: DeviceAddress, m: Mapping, probes: u64) -> Location
 }
 
 // Host store: `buf` goes to memory from `a` on, and its bytes are written.
+#[tactic(auto, unfolding(crate::specs::Calls::given))]
 pub fn host_write(
     ok: bool,
     bytes: &mut [u8],
@@ -258,6 +265,7 @@ pub fn host_write(
 }
 
 // Host load: the whole of `buf` is filled from memory at `a`.
+#[tactic(auto, unfolding(crate::specs::Calls::given))]
 pub fn host_read(ok: bool, bytes: &[u8], shadow: &[u8], a: MemoryAddress, buf: &mut [u8]) -> Answer
     requires { ok ≡ true → can_lend (memory_of bytes.now shadow.now) ≡ true }
     ensures { (s : StateRecord) (rs : List MappingRecord) → ok ≡ can_use state_and_memory (emulator_of s rs (lent_memory bytes shadow)) → Meets (host_read a) buf.old s rs (lent_memory bytes shadow) (told result) buf.new (lent_memory bytes shadow) s rs }
@@ -278,6 +286,7 @@ pub fn host_read(ok: bool, bytes: &[u8], shadow: &[u8], a: MemoryAddress, buf: &
 }
 
 // Forget: the marks of `n` bytes from `a` on are cleared; the bytes stay.
+#[tactic(auto, unfolding(crate::specs::Calls::given))]
 pub fn invalidate(ok: bool, bytes: &[u8], shadow: &mut [u8], a: MemoryAddress, n: u64) -> Answer
     requires { ok ≡ true → can_lend (memory_of bytes.now shadow.old) ≡ true }
     ensures { (s : StateRecord) (rs : List MappingRecord) → ok ≡ can_use state_and_memory (emulator_of s rs (lent_memory bytes shadow)) → Meets (calls.invalidate a n) [] s rs (lent_memory bytes shadow) (told result) [] (remarked_memory bytes shadow) s rs }
@@ -305,6 +314,7 @@ fn unchanged(code: u32, place: u64, registers: Registers) -> Changed
 }
 
 // Sets the register of a type and a selector number to the value `v`, in the registers of a card.
+#[tactic(auto, unfolding(crate::specs::Calls::given, crate::specs::Machine::usable, crate::specs::Machine::emulator_of))]
 pub fn set_register(
     ok: bool,
     words: u8,
@@ -333,6 +343,7 @@ pub fn set_register(
 }
 
 // Reads the register of a type and a selector number: its value goes to the buffer's start, and its length is the result.
+#[tactic(auto, unfolding(crate::specs::Calls::given, crate::specs::Machine::usable, crate::specs::Machine::emulator_of))]
 pub fn read_register(
     ok: bool,
     words: u8,
@@ -358,6 +369,7 @@ pub fn read_register(
 }
 
 // Shows an interrupt line, by its index and its number there.
+#[tactic(auto, unfolding(crate::specs::Calls::given, crate::specs::Machine::usable, crate::specs::Machine::emulator_of))]
 pub fn show_line(ok: bool, lines: Lines, index: u32, line: u32) -> Shown
     ensures { (s : StateRecord) (rs : List MappingRecord) → ok ≡ sound_machine (length rs) (machine_of s rs) → lines ≡ s.lines → MeetsAlone (show_line index line) [] s rs (told_line result) [] s rs }
 {
@@ -388,6 +400,7 @@ fn queue_register(registers: Registers, queue: u32) -> Register
 }
 
 // What the register of a queue tells of it. Where the checks of a walk refuse, nothing is asked of it.
+#[tactic(auto, unfolding(virtqueue::specs::Ring::queue_of))]
 pub fn queue_at(registers: Registers, queue: u32) -> Queue
     ensures { result ≡ queue_of (queue_register registers queue).bytes }
 {
@@ -445,6 +458,7 @@ pub fn load_registers(ok: bool, words: u8, running: u8, stream: &[u8]) -> Loaded
 }
 
 // Saves the registers as a stream of parts at the buffer's start; its length is the result.
+#[tactic(auto, unfolding(crate::specs::Calls::given, crate::specs::Machine::usable, crate::specs::Machine::emulator_of))]
 pub fn save_parts(ok: bool, words: u8, running: u8, registers: Registers, buf: &mut [u8]) -> Answer
     requires { ok ≡ true → is_card words ≡ true }
     ensures { (s : StateRecord) (rs : List MappingRecord) → ok ≡ sound_machine (length rs) (machine_of s rs) → words ≡ s.words → running ≡ s.running → registers ≡ s.registers → MeetsAlone saveParts buf.old s rs (told result) buf.new s rs }

@@ -1,4 +1,6 @@
 // The interrupt lines of the device: what each keeps, the request that sets them up and acts on them, and the look at one.
+#![tactic(auto)]
+
 ghost use Rattle.std.specs.Prelude.{◌≡◌, ◌+◌, ◌*◌, ◌<◌, ◌≤◌, not, length, negsuc, ◌==◌, int_lt, nat_eq};
 ghost use Rattle.answer.specs.Tests.{◌and◌, ◌or◌, pick};
 ghost use Rattle.answer.specs.declared.Verdict.TheVariants.{Pass};
@@ -10,7 +12,7 @@ use answer::Verdict;
 // One line. `number` has the 32 bits of its event number, which is signed: none is assigned where it is −1. It is masked, or has an event
 // pending, where that byte is 1, and no other value says so. `tally` counts its events, modulo 2^32.
 #[repr(C)]
-#[derive(Drop)]
+#[derive(Clone, Copy)]
 pub struct Line {
     pub number: u32,
     pub tally: u32,
@@ -23,7 +25,7 @@ pub const LINES: usize = 25;
 
 // The lines of all indices, one index after the other.
 #[repr(C)]
-#[derive(Drop)]
+#[derive(Clone, Copy)]
 pub struct Lines {
     pub lines: [Line; LINES],
 }
@@ -38,6 +40,7 @@ const NO_EVENT: u32 = 0xffffffff;
 
 const INDICES: u32 = 4;
 
+#[tactic(auto, unfolding(crate::specs::Lines::index_at))]
 pub fn count_of(index: u32) -> u32
     ensures { result ≡ (index_at index).count }
 {
@@ -49,6 +52,7 @@ pub fn count_of(index: u32) -> u32
     }
 }
 
+#[tactic(auto, unfolding(crate::specs::Lines::index_at))]
 pub fn flags_of(index: u32) -> u32
     ensures { result ≡ (index_at index).flags }
 {
@@ -60,12 +64,14 @@ pub fn flags_of(index: u32) -> u32
     }
 }
 
+#[tactic(auto, unfolding(crate::specs::Lines::maskable))]
 fn is_maskable(index: u32) -> bool
     ensures { result ≡ maskable index }
 {
     flags_of(index) / 2 % 2 == 1
 }
 
+#[tactic(auto, unfolding(crate::specs::Lines::automasked))]
 fn is_automasked(index: u32) -> bool
     ensures { result ≡ automasked index }
 {
@@ -73,6 +79,7 @@ fn is_automasked(index: u32) -> bool
 }
 
 // Where the lines of an index begin.
+#[tactic(auto, unfolding(crate::specs::Lines::first_line, crate::specs::Lines::count_before))]
 pub fn first_of(index: u32) -> usize
     ensures { result ≡ first_line index }
 {
@@ -87,6 +94,7 @@ pub fn first_of(index: u32) -> usize
 // ---- event numbers
 
 // The number that 32 bits are, read as signed. Neither cast loses a bit.
+#[tactic(auto, unfolding(crate::specs::Lines::event_number))]
 pub fn event_number(bits: u32) -> i32
     ensures { result ≡ event_number bits }
 {
@@ -105,6 +113,7 @@ pub fn is_lower(n: i32) -> bool
 
 // ---- what is done to a line
 
+#[tactic(auto, unfolding(crate::specs::Lines::assigned))]
 fn is_assigned(l: Line) -> bool
     ensures { result ≡ assigned l }
 {
@@ -112,6 +121,7 @@ fn is_assigned(l: Line) -> bool
 }
 
 // A line whose number was stored just now.
+#[tactic(auto, unfolding(crate::specs::Lines::stored))]
 fn stored(bits: u32) -> Line
     ensures { result ≡ stored_line bits }
 {
@@ -123,6 +133,7 @@ fn stored(bits: u32) -> Line
     }
 }
 
+#[tactic(auto, unfolding(crate::specs::Lines::off))]
 fn off() -> Line
     ensures { result ≡ off_line }
 {
@@ -130,6 +141,7 @@ fn off() -> Line
 }
 
 // The line with its two flags, all else kept.
+#[tactic(auto, unfolding(crate::specs::Lines::with_flags))]
 fn with_flags(l: Line, masked: u8, pending: u8) -> Line
     ensures { result ≡ with_flags masked pending l }
 {
@@ -142,6 +154,7 @@ fn with_flags(l: Line, masked: u8, pending: u8) -> Line
 }
 
 // An event on a line with a number: a masked line only notes it, another counts it.
+#[tactic(auto, unfolding(crate::specs::Lines::raised, answer::specs::Tests::pick))]
 fn raise(l: Line, auto: bool) -> Line
     ensures { result ≡ raised auto l }
 {
@@ -158,6 +171,7 @@ fn raise(l: Line, auto: bool) -> Line
     }
 }
 
+#[tactic(auto, unfolding(crate::specs::Lines::triggered, answer::specs::Tests::pick))]
 fn trigger(l: Line, auto: bool) -> Line
     ensures { result ≡ triggered auto l }
 {
@@ -167,6 +181,7 @@ fn trigger(l: Line, auto: bool) -> Line
     l
 }
 
+#[tactic(auto, unfolding(crate::specs::Lines::with_mask, answer::specs::Tests::pick))]
 fn mask(l: Line) -> Line
     ensures { result ≡ with_mask l }
 {
@@ -177,6 +192,7 @@ fn mask(l: Line) -> Line
 }
 
 // The mask goes; an event that was pending comes now, and may mask the line again.
+#[tactic(auto, unfolding(crate::specs::Lines::unmasked, answer::specs::Tests::pick))]
 fn unmask(l: Line, auto: bool) -> Line
     ensures { result ≡ unmasked auto l }
 {
@@ -191,6 +207,7 @@ fn unmask(l: Line, auto: bool) -> Line
 
 // ---- all lines
 
+#[tactic(auto, unfolding(crate::specs::Lines::disabled_lines))]
 pub fn disabled() -> Lines
     ensures { result.lines ≡ disabled_lines }
 {
@@ -200,6 +217,7 @@ pub fn disabled() -> Lines
 }
 
 // Whether no line has a number below −1.
+#[tactic(auto, unfolding(crate::specs::Lines::lower, crate::specs::Lines::stored))]
 pub fn sound(l: Lines) -> bool
     ensures { result ≡ sound_lines l.lines }
 {
@@ -233,6 +251,7 @@ const TRIGGER: u32 = 4;
 const DATA: usize = 20;
 
 // Of three bits just one, and none beyond.
+#[tactic(auto, unfolding(crate::specs::Requests::one_of_three))]
 fn is_one_of_three(x: u32) -> bool
     ensures { result ≡ one_of_three x }
 {
@@ -261,6 +280,7 @@ fn is_action_taken(flags: u32, index: u32) -> bool
 }
 
 // Whether a request disables its index.
+#[tactic(auto, unfolding(crate::specs::Requests::disables))]
 fn disables(flags: u32, count: u32) -> bool
     ensures { result ≡ disables_index flags count }
 {
@@ -268,6 +288,7 @@ fn disables(flags: u32, count: u32) -> bool
 }
 
 // The checks of the fields, before the data. The sum is one of whole numbers: it does not wrap in 32 bits.
+#[tactic(auto, unfolding(crate::specs::Requests::field_checks))]
 fn check_fields(flags: u32, index: u32, start: u32, count: u32) -> Verdict
     ensures { result ≡ field_checks flags index start count }
 {
@@ -296,6 +317,7 @@ fn check_fields(flags: u32, index: u32, start: u32, count: u32) -> Verdict
 }
 
 // How many bytes of data there are for `count` lines.
+#[tactic(auto, unfolding(crate::specs::Requests::width, answer::specs::Tests::pick))]
 fn data_size(kind: u32, count: u32) -> usize
     ensures { result ≡ count * width kind }
 {
@@ -309,6 +331,7 @@ fn data_size(kind: u32, count: u32) -> usize
 }
 
 // Whether one of the event numbers is below −1. All are judged before any is stored.
+#[tactic(auto, unfolding(crate::specs::Requests::any_lower, crate::specs::Lines::lower, crate::specs::Requests::event_at))]
 fn any_lower(buf: &[u8], count: u32) -> bool
     requires { data_start + 4 * count ≤ length buf.now }
     ensures { result ≡ any_lower buf.now count }
@@ -343,6 +366,7 @@ fn check_data(buf: &[u8], flags: u32, count: u32) -> Verdict
 }
 
 // The checks of a request that has its 20 bytes and whose argsz is within the buffer.
+#[tactic(auto, unfolding(crate::specs::Requests::set_checks))]
 pub fn check_set(buf: &[u8]) -> Verdict
     requires { (data_start ≤ length buf.now) × (argsz_of buf.now ≤ length buf.now) }
     ensures { result ≡ set_checks buf.now }
@@ -357,6 +381,7 @@ pub fn check_set(buf: &[u8]) -> Verdict
 }
 
 // What an action does to a line.
+#[tactic(auto, unfolding(crate::specs::Requests::acted, answer::specs::Tests::pick))]
 fn act(l: Line, action: u32, auto: bool) -> Line
     ensures { result ≡ acted action auto l }
 {
@@ -370,6 +395,7 @@ fn act(l: Line, action: u32, auto: bool) -> Line
 }
 
 // Whether the line at offset `j` of the range is selected: where there are bytes, by any but 0.
+#[tactic(auto, unfolding(crate::specs::Requests::selected, crate::specs::Requests::byte_at))]
 fn is_selected(buf: &[u8], kind: u32, j: usize) -> bool
     requires { (kind ≡ kind_of (flags_of buf.now)) × (kind ≡ data_bool → data_start + j < length buf.now) }
     ensures { result ≡ selected buf.now j }
@@ -381,6 +407,7 @@ fn is_selected(buf: &[u8], kind: u32, j: usize) -> bool
 }
 
 // What becomes of the line at offset `j` of the range: its event number is read here, or its byte, and nothing where there are no data.
+#[tactic(auto, unfolding(answer::specs::Tests::pick, crate::specs::Requests::event_at))]
 fn change(l: Line, buf: &[u8], flags: u32, whole: bool, auto: bool, j: usize) -> Line
     requires { (flags ≡ flags_of buf.now) × (whole ≡ disables_index flags (count_of buf.now)) × (auto ≡ automasked (index_of buf.now)) × (j < range_count buf.now) × (data_start + count_of buf.now * width (kind_of flags) ≤ length buf.now) }
     ensures { result ≡ changed_line buf.now j l }
@@ -399,6 +426,7 @@ fn change(l: Line, buf: &[u8], flags: u32, whole: bool, auto: bool, j: usize) ->
 }
 
 // The place of the range's first line, and how many it has: the whole index where it is disabled.
+#[tactic(auto, unfolding(answer::specs::Tests::pick))]
 fn range_start(index: u32, start: u32, whole: bool) -> usize
     ensures { result ≡ first_line index + pick whole 0 start }
 {
@@ -409,6 +437,7 @@ fn range_start(index: u32, start: u32, whole: bool) -> usize
     first + start as usize
 }
 
+#[tactic(auto, unfolding(answer::specs::Tests::pick))]
 fn range_count(index: u32, count: u32, whole: bool) -> usize
     ensures { result ≡ pick whole (index_at index).count count }
 {
@@ -419,6 +448,7 @@ fn range_count(index: u32, count: u32, whole: bool) -> usize
 }
 
 // The lines after a request that passes: one pass over those of its range.
+#[tactic(auto, unfolding(crate::specs::Lines::stored, crate::specs::Requests::changed_lines))]
 pub fn set(l: Lines, buf: &[u8]) -> Lines
     requires { (data_start ≤ length buf.now) × (argsz_of buf.now ≤ length buf.now) × (set_checks buf.now ≡ Pass) }
     ensures { result.lines ≡ changed_lines buf.now l.lines }
@@ -444,6 +474,7 @@ pub fn set(l: Lines, buf: &[u8]) -> Lines
 
 // ---- showing a line
 
+#[tactic(auto, unfolding(crate::specs::Requests::show_checks))]
 pub fn check_show(index: u32, line: u32) -> Verdict
     ensures { result ≡ show_checks index line }
 {
@@ -457,6 +488,7 @@ pub fn check_show(index: u32, line: u32) -> Verdict
 }
 
 // A line for which `check_show` passes.
+#[tactic(auto, unfolding(crate::specs::Requests::show_checks, crate::specs::Requests::line_at, crate::specs::Lines::stored))]
 pub fn shown(l: Lines, index: u32, line: u32) -> Line
     requires { show_checks index line ≡ Pass }
     ensures { result ≡ line_at l.lines index line }

@@ -9,5 +9,3 @@ pub mod Lows
 pub mod Places
 pub mod Closing
 pub mod Sums
-pub mod Records
-pub mod Contracts

@@ -1,5 +1,7 @@
 // The mapping table of an IOMMU: records that the caller lends, of which the first `count` are in use, by rising device address. The others
 // are stale: they are not looked at, and change only where they are put to use.
+#![tactic(auto)]
+
 ghost use Rattle.std.specs.Prelude.{◌≡◌, true, false, not, List, ◌+◌, ◌-◌, ◌≤◌, ◌<◌, leb, ltb, length, get_or};
 ghost use Rattle.answer.specs.Tests.{◌and◌, pick};
 ghost use Rattle.answer.specs.Codes.{Cuts};
@@ -23,7 +25,7 @@ pub const TYPE1V2: u32 = 3;
 
 // A mapping shows `size` bytes of memory from `memory` on at the device addresses from `device` on. Its rights are READ 1, WRITE 2.
 #[repr(C)]
-#[derive(Drop)]
+#[derive(Clone, Copy)]
 pub struct Mapping {
     pub device: DeviceAddress,
     pub memory: MemoryAddress,
@@ -33,7 +35,7 @@ pub struct Mapping {
 
 // What stands at a device address: where its byte lies in memory, with which rights, and how many bytes its mapping shows from there on, or
 // no mapping.
-#[derive(Drop)]
+#[derive(Clone, Copy)]
 pub enum Translation {
     At(MemoryAddress, u32, u64),
     Nowhere,
@@ -41,7 +43,7 @@ pub enum Translation {
 
 // A search by halving for a device address: the places from `lo` up to but not including `hi` are left to it, and it has looked at
 // `probes` of them. At its end both are the place of the first record that ends past the address, and `held` says whether that holds it.
-#[derive(Drop)]
+#[derive(Clone, Copy)]
 pub struct Search {
     pub lo: usize,
     pub hi: usize,
@@ -50,7 +52,7 @@ pub struct Search {
 }
 
 // What an unmap comes to: its checks, and the places of the first record that goes and of the first behind it that stays.
-#[derive(Drop)]
+#[derive(Clone, Copy)]
 pub struct Unmap {
     pub verdict: Verdict,
     pub from: usize,
@@ -58,6 +60,7 @@ pub struct Unmap {
 }
 
 // Whether there are containers of that IOMMU type.
+#[tactic(auto, unfolding(crate::specs::Table::is_iommu_type))]
 pub fn is_iommu_type(kind: u32) -> bool
     ensures { result ≡ is_iommu_type kind }
 {
@@ -65,6 +68,7 @@ pub fn is_iommu_type(kind: u32) -> bool
 }
 
 // READ, WRITE or both, and no other bit.
+#[tactic(auto, unfolding(crate::specs::Table::valid_rights))]
 fn valid_rights(rights: u32) -> bool
     ensures { result ≡ valid_rights rights }
 {
@@ -72,6 +76,7 @@ fn valid_rights(rights: u32) -> bool
 }
 
 // Whether both addresses and the size are multiples of the page size.
+#[tactic(auto, unfolding(crate::specs::Table::aligned_mapping))]
 fn aligned_mapping(m: Mapping) -> bool
     ensures { result ≡ aligned_mapping m }
 {
@@ -80,6 +85,7 @@ fn aligned_mapping(m: Mapping) -> bool
 
 // Whether a mapping ends at 2^48 or below, and inside a memory of `size` bytes. Memory is asked first: a size that fits it fits the other
 // range by itself, and the compiler leaves that test out.
+#[tactic(auto, unfolding(crate::specs::Table::in_range))]
 fn in_range(size: u64, m: Mapping) -> bool
     ensures { result ≡ in_range size m }
 {
@@ -87,6 +93,7 @@ fn in_range(size: u64, m: Mapping) -> bool
 }
 
 // Whether a mapping passes the checks that the map request makes of it alone.
+#[tactic(auto, unfolding(crate::specs::Table::sound_mapping))]
 fn sound_mapping(m: Mapping, size: u64) -> bool
     ensures { result ≡ sound_mapping size m }
 {
@@ -103,6 +110,7 @@ fn sound_mapping(m: Mapping, size: u64) -> bool
 }
 
 // Where the record behind `m` may begin, if `m` is sound and begins at `low` or later; else a number past every device address.
+#[tactic(auto, unfolding(crate::specs::Table::next_low))]
 fn next_low(low: u64, m: Mapping, size: u64) -> u64
     ensures { result ≡ next_low size low m }
 {
@@ -128,6 +136,7 @@ fn blank_mapping() -> Mapping
 }
 
 // The record in use at a place; a blank one behind the last.
+#[tactic(auto, unfolding(crate::specs::Table::in_use, walks::proofs::Walk::tables_of))]
 pub fn get(records: &[Mapping], count: usize, i: usize) -> Mapping
     requires { count ≤ length records.now }
     ensures { result ≡ get_or (in_use (table_of records.now count)) i blank }
@@ -147,6 +156,7 @@ fn cannot_hold(room: usize, count: usize) -> bool
 
 // Whether the records in use may be trusted with a memory of `size` bytes. It is asked of any values at all, so the count is tested before
 // a record is read.
+#[tactic(auto, unfolding(crate::proofs::Lows::sound_low, walks::proofs::Walk::tables_of))]
 pub fn sound(records: &[Mapping], count: usize, size: u64) -> bool
     ensures { result ≡ (leb (length records.now) capacity and leb count (length records.now) and sound_table size (in_use (table_of records.now count))) }
 {
@@ -166,6 +176,7 @@ pub fn sound(records: &[Mapping], count: usize, size: u64) -> bool
 }
 
 // Whether a mapping holds a device address.
+#[tactic(auto, unfolding(crate::specs::Table::holds))]
 fn holds(m: Mapping, d: DeviceAddress) -> bool
     ensures { result ≡ held m d }
 {
@@ -192,6 +203,7 @@ fn searching(s: Search) -> bool
 }
 
 // The place that a search looks at next.
+#[tactic(auto, unfolding(crate::specs::Halving::middle_of))]
 fn middle(s: Search) -> usize
     requires { Open s }
     ensures { result ≡ middle_of s }
@@ -200,6 +212,7 @@ fn middle(s: Search) -> usize
 }
 
 // A search that has looked at the record in its middle: it stops there, or goes on below or above that place.
+#[tactic(auto, unfolding(crate::specs::Halving::probed, crate::specs::Halving::middle_of))]
 fn probe(s: Search, m: Mapping, d: DeviceAddress) -> Search
     requires { Open s }
     ensures { result ≡ probed m d s }
@@ -231,6 +244,7 @@ fn probe(s: Search, m: Mapping, d: DeviceAddress) -> Search
 }
 
 // The place of a device address among the records in use, by halving.
+#[tactic(auto, unfolding(walks::proofs::Walk::tables_of))]
 pub fn find(records: &[Mapping], count: usize, d: DeviceAddress) -> Search
     requires { Sound (table_of records.now count) }
     ensures { (result ≡ searched count (in_use (table_of records.now count)) d (search_of count)) × Placed (in_use (table_of records.now count)) d result.lo result.held }
@@ -243,6 +257,7 @@ pub fn find(records: &[Mapping], count: usize, d: DeviceAddress) -> Search
 }
 
 // What a mapping says of a device address.
+#[tactic(auto, unfolding(crate::specs::Table::in_range, address::specs::Address::in_memory_range, crate::specs::Table::shown_by, crate::specs::Table::address_in, crate::specs::Table::left_in))]
 pub fn shown_by(m: Mapping, d: DeviceAddress) -> Translation
     requires { held m d ≡ true → in_range memory_limit m ≡ true }
     ensures { result ≡ shown_by m d }
@@ -255,6 +270,7 @@ pub fn shown_by(m: Mapping, d: DeviceAddress) -> Translation
 }
 
 // The checks of the request that sets a container's IOMMU type, with that many records in use.
+#[tactic(auto, unfolding(crate::specs::Requests::set_iommu_checks))]
 pub fn check_set_iommu(count: usize, kind: u32) -> Verdict
     ensures { result ≡ set_iommu_checks count kind }
 {
@@ -277,6 +293,7 @@ fn overlaps(m: Mapping, count: usize, at: usize, next: Mapping) -> bool
 
 // The checks of the map request, for a memory of `size` bytes and a table of `room` records of which `count` are in use. `next` is the
 // record at the place that was found for the mapping's start.
+#[tactic(auto, unfolding(crate::specs::Requests::map_checks, crate::specs::Table::in_range, address::specs::Address::in_device_range))]
 pub fn check_map(
     m: Mapping,
     size: u64,
@@ -316,6 +333,7 @@ fn aligned_range(d: DeviceAddress, n: u64) -> bool
 }
 
 // One past the last of the `n` device addresses from `d` on; of a range past 2^48, which is refused, its start.
+#[tactic(auto, unfolding(address::specs::Address::in_device_range, crate::specs::Requests::end_of))]
 pub fn end_of(d: DeviceAddress, n: u64) -> DeviceAddress
     ensures { result ≡ end_of d n }
 {
@@ -326,6 +344,7 @@ pub fn end_of(d: DeviceAddress, n: u64) -> DeviceAddress
 }
 
 // Whether a mapping begins before a device address that it holds.
+#[tactic(auto, unfolding(crate::specs::Table::sticks_out))]
 fn sticks_out(m: Mapping, d: DeviceAddress) -> bool
     ensures { result ≡ sticks_out m d }
 {
@@ -343,6 +362,7 @@ fn refused_unmap(code: u32) -> Unmap
 }
 
 // The records from place `from` up to but not including `to` go. Where none do, both are the count, so that none is moved.
+#[tactic(auto, unfolding(crate::specs::Requests::removing_run))]
 fn removing(count: usize, from: usize, to: usize) -> Unmap
     ensures { result ≡ removing_run count from to }
 {
@@ -415,6 +435,7 @@ fn remove_beginning(
 
 // The checks of the unmap request by the container's IOMMU type, and the records that go: `first` and `last` are the places found for its
 // range's two ends, and `x` and `y` the records there.
+#[tactic(auto, unfolding(crate::specs::Requests::unmap_checks, crate::specs::Table::removed, answer::specs::Tests::pick))]
 pub fn check_unmap(
     kind: u32,
     flags: u32,
@@ -447,6 +468,7 @@ pub fn check_unmap(
 }
 
 // Puts a mapping at a place among the records in use: those from there on move up by one.
+#[tactic(auto, unfolding(walks::proofs::Walk::tables_of))]
 pub fn insert(records: &mut [Mapping], count: usize, at: usize, m: Mapping)
     requires { (at ≤ count) × (count < length records.old) }
     ensures { records.new ≡ holding (inserted_at at m (in_use (table_of records.old count))) records.old }
@@ -469,6 +491,7 @@ fn added(sum: u64, m: Mapping) -> u64
 }
 
 // The sum of the sizes of the records from place `from` up to but not including `to`.
+#[tactic(auto, unfolding(walks::proofs::Walk::tables_of))]
 pub fn sizes(records: &[Mapping], count: usize, from: usize, to: usize) -> u64
     requires { (Sound (table_of records.now count)) × (from ≤ to) × (to ≤ count) }
     ensures { result ≡ sizes_between from to (in_use (table_of records.now count)) }
@@ -484,6 +507,7 @@ pub fn sizes(records: &[Mapping], count: usize, from: usize, to: usize) -> u64
 
 // Removes the records from place `from` up to but not including `to`: those behind them move down. Records past the new count keep what
 // they held.
+#[tactic(auto, unfolding(walks::proofs::Walk::tables_of))]
 pub fn close(records: &mut [Mapping], count: usize, from: usize, to: usize)
     requires { (from ≤ to) × (to ≤ count) × (count ≤ length records.old) }
     ensures { records.new ≡ holding (without_run from to (in_use (table_of records.old count))) records.old }

@@ -1,4 +1,6 @@
 // Memory with a shadow: for each byte whether anybody has written it. Marks are packed, eight to a byte, the lowest bit first.
+#![tactic(auto)]
+
 ghost use Rattle.std.specs.Prelude.{◌≡◌, List, ℕ, ◌+◌, ◌*◌, ◌^◌, ◌≤◌, ◌<◌, length};
 ghost use Rattle.wire.specs.Field.{slice};
 ghost use Rattle.address.specs.Address.{memory_address};
@@ -41,6 +43,7 @@ pub fn check_written(shadow: &[u8], a: usize, n: usize) -> Verdict
 }
 
 // The check of an invalidation of the `n` bytes from `a` on, in a memory of `size` bytes. `n` is any number, so no sum is made.
+#[tactic(auto, unfolding(crate::specs::Transfers::invalidate_checks))]
 pub fn check_invalidate(size: u64, a: MemoryAddress, n: u64) -> Verdict
     ensures { result ≡ invalidate_checks size a n }
 {

@@ -1,4 +1,6 @@
 // Device parts: the stream that carries the registers.
+#![tactic(auto)]
+
 ghost use Rattle.std.specs.Prelude.{◌≡◌, true, List, ℕ, ◌+◌, ◌*◌, ◌^◌, ◌≤◌, ◌<◌, length, take};
 ghost use Rattle.std.proofs.Math.Option.{Option};
 ghost use Rattle.std.proofs.lemmas.List.Edits.{sets};
@@ -15,7 +17,7 @@ use answer::Verdict;
 use registers::{Register, Registers};
 
 // What stands at a place of a stream: a part, whose value reaches from 16 bytes behind that place to `next`; the end; or a refusal.
-#[derive(Drop)]
+#[derive(Clone, Copy)]
 pub enum Step {
     Part {
         kind: u16,
@@ -33,6 +35,7 @@ pub enum Step {
 pub const HEADER_SIZE: usize = 16;
 
 // The part at place `at`, where `h` is what is left of the stream there.
+#[tactic(auto, unfolding(crate::specs::Step::value_size, crate::specs::Step::part_at))]
 fn part_at(h: &[u8], at: usize) -> Step
     requires { at + length h.now < 2 ^ 64 }
     ensures { result ≡ part_step h.now at }
@@ -73,6 +76,7 @@ pub fn step_at(s: &[u8], at: usize) -> Step
 }
 
 // The value of the part at `at` whose next place is `next`, as that stretch of the lent stream.
+#[tactic(auto, unfolding(crate::specs::Step::value_to))]
 pub fn value_to(s: &[u8], at: usize, next: usize) -> &[u8]
     requires { (at + header_size ≤ next) × (next ≤ length s.now) }
     ensures { result.now ≡ value_to s.now at next }
@@ -101,7 +105,7 @@ pub fn value_at(s: &[u8], at: usize) -> &[u8]
 // ---- loading
 
 // What loading comes to, and the registers that were loaded; none of them is set where it is refused.
-#[derive(Drop)]
+#[derive(Clone, Copy)]
 pub struct Loaded {
     pub verdict: Verdict,
     pub registers: Registers,
@@ -111,6 +115,7 @@ pub struct Loaded {
 const RESERVED_KINDS: u64 = 0x600;
 
 // Offered features are flagged optional, and no other listed type.
+#[tactic(auto, unfolding(crate::specs::Load::flags_of, answer::specs::Tests::pick))]
 pub fn flags_of(kind: u64) -> u8
     ensures { result ≡ flags_of kind }
 {
@@ -133,6 +138,7 @@ fn selector_limit(kind: u64) -> u64
 }
 
 // A part of a listed type. It names a row of the table, which a part named before where `twice` is true.
+#[tactic(auto, unfolding(crate::specs::Load::listed_checks, registers::specs::Rows::selects))]
 fn check_listed(
     words: u8,
     row: usize,
@@ -163,6 +169,7 @@ fn check_listed(
     registers::check_content(words, row, v)
 }
 
+#[tactic(auto, unfolding(crate::specs::Load::part_checks, answer::specs::Tests::pick))]
 fn check_part(
     words: u8,
     row: usize,
@@ -189,6 +196,7 @@ fn check_part(
 }
 
 // A refused stream, of which no register is taken.
+#[tactic(auto, unfolding(crate::specs::Load::loaded_of))]
 fn refused(code: u32, place: u64) -> Loaded
     ensures { result ≡ loaded_of (refusal code place) }
 {
@@ -200,6 +208,7 @@ fn refused(code: u32, place: u64) -> Loaded
 }
 
 // The end of the stream, at place `at`, where `named` is whether a part named status. Registers that no part named are not set.
+#[tactic(auto, unfolding(crate::specs::Load::loaded_of))]
 fn finish(words: u8, slots: [Register; registers::SLOTS], named: bool, at: usize) -> Loaded
     requires { (slots ≡ slots_of (file_from words 1 slots)) × (named ≡ is_some (current words (file_from words 1 slots) status_row)) }
     ensures { (x : Option (List ℕ)) → result ≡ loaded_of (finished (seen_in words x slots) at) }
@@ -269,6 +278,7 @@ fn load_parts(words: u8, s: &[u8]) -> Loaded
 }
 
 // Loads a stream on a card with so many words of features.
+#[tactic(auto, unfolding(crate::specs::Load::load, answer::specs::Answer::settle, answer::specs::Limits::length_check))]
 pub fn load(words: u8, running: bool, s: &[u8]) -> Loaded
     requires { is_card words ≡ true }
     ensures { result ≡ loaded_of (loading words running s.now) }
@@ -336,6 +346,7 @@ fn saved_length(words: u8, registers: Registers) -> usize
 }
 
 // Saving into a buffer of `room` bytes.
+#[tactic(auto, unfolding(crate::specs::Save::save_checks))]
 pub fn check_save(words: u8, registers: Registers, running: bool, room: usize) -> Verdict
     requires { words ≤ word_room }
     ensures { result ≡ save_checks words running (file_of words registers) room }

@@ -1,4 +1,6 @@
 // The register file of the device.
+#![tactic(auto)]
+
 ghost use Rattle.std.specs.Prelude.{◌≡◌, true, ◌+◌, ◌-◌, ◌*◌, ◌<◌, ◌≤◌, length, set as with_element, ltb, eqb};
 ghost use Rattle.std.proofs.Math.Option.{none, some};
 ghost use Rattle.std.proofs.lemmas.List.Edits.{sets};
@@ -18,7 +20,7 @@ use answer::Verdict;
 // One register: it is set where `set` is 1, and no other value of that byte says so; its value stands at the start of `bytes`. Bytes
 // past the value's size, and all bytes of a register that is not set, mean nothing.
 #[repr(C)]
-#[derive(Drop)]
+#[derive(Clone, Copy)]
 pub struct Register {
     pub set: u8,
     pub bytes: [u8; 32],
@@ -27,7 +29,7 @@ pub struct Register {
 // The registers that are kept, by rising type and selector: driver features, four common fields, status, four queues, four notify
 // values. Offered features are constant and not kept.
 #[repr(C)]
-#[derive(Drop)]
+#[derive(Clone, Copy)]
 pub struct Registers {
     pub slots: [Register; SLOTS],
 }
@@ -38,13 +40,14 @@ pub const SET: u8 = 1;
 // ---- the cards
 
 // The card that is emulated, by the bits that its features have: one word of 64, or two. Nothing else of it differs.
-#[derive(Drop)]
+#[derive(Clone, Copy)]
 pub enum Card {
     Features64,
     Features128,
 }
 
 // How many words of features a card has, which is how a kept state tells the cards apart.
+#[tactic(auto, unfolding(crate::specs::Cards::words_of))]
 pub fn words_of(card: Card) -> u8
     ensures { result ≡ words_of card }
 {
@@ -54,6 +57,7 @@ pub fn words_of(card: Card) -> u8
     }
 }
 
+#[tactic(auto, unfolding(crate::specs::Cards::is_card))]
 pub fn is_card(words: u8) -> bool
     ensures { result ≡ is_card words }
 {
@@ -89,6 +93,7 @@ const SELECTORS: [u64; 15] = [0, 0, 0, 8, 16, 22, 0, 0, 1, 2, 3, 0, 1, 2, 3];
 
 // Types and sizes go by ranges of rows: soundness asks for both of every register in every call, and a constant table that is indexed is
 // built anew on the stack each time.
+#[tactic(auto, unfolding(crate::specs::Rows::kind_of, answer::proofs::Tests::below))]
 pub fn kind_of(row: usize) -> u64
     requires { row < row_count }
     ensures { result ≡ kind_of row }
@@ -111,6 +116,7 @@ pub fn kind_of(row: usize) -> u64
     NOTIFY_CONFIG
 }
 
+#[tactic(auto, unfolding(crate::specs::Rows::selector_of))]
 pub fn selector_of(row: usize) -> u64
     requires { row < row_count }
     ensures { result ≡ selector_of row }
@@ -119,6 +125,7 @@ pub fn selector_of(row: usize) -> u64
 }
 
 // The size of a row's value on a card with so many words of features.
+#[tactic(auto, unfolding(crate::specs::Rows::size_of, crate::specs::Rows::size_in, crate::specs::Rows::width_of, answer::proofs::Tests::below))]
 pub fn size_of(words: u8, row: usize) -> usize
     requires { row < row_count }
     ensures { result ≡ size_of words row }
@@ -142,6 +149,7 @@ pub fn size_of(words: u8, row: usize) -> usize
 }
 
 // The row of a common field at an offset, or `ROWS`.
+#[tactic(auto, unfolding(crate::specs::Rows::row_of, crate::specs::Rows::row_from, crate::specs::Rows::kind_of, crate::specs::Rows::selector_of, answer::specs::Tests::pick))]
 fn common_row(offset: u64) -> usize
     ensures { result ≡ row_of CommonField offset }
 {
@@ -155,6 +163,7 @@ fn common_row(offset: u64) -> usize
 }
 
 // The row of a selector number among the `count` rows of a type from `first` on, or `ROWS`.
+#[tactic(auto, unfolding(answer::specs::Tests::pick))]
 fn row_among(first: usize, count: u64, selector: u64) -> usize
     requires { first + count ≤ row_count }
     ensures { result ≡ pick (ltb selector count) (first + selector) row_count }
@@ -167,6 +176,7 @@ fn row_among(first: usize, count: u64, selector: u64) -> usize
 }
 
 // The row of a type and a selector number, or `ROWS`.
+#[tactic(auto, unfolding(crate::specs::Rows::row_of, crate::specs::Rows::row_from, crate::specs::Rows::kind_of, crate::specs::Rows::selector_of, answer::proofs::Tests::below, answer::specs::Tests::pick))]
 pub fn row_of(kind: u64, selector: u64) -> usize
     ensures { result ≡ row_of kind selector }
 {
@@ -181,6 +191,7 @@ pub fn row_of(kind: u64, selector: u64) -> usize
     }
 }
 
+#[tactic(auto, unfolding(crate::specs::Rows::listed))]
 pub fn is_listed(kind: u64) -> bool
     ensures { result ≡ listed kind }
 {
@@ -191,6 +202,7 @@ pub fn is_listed(kind: u64) -> bool
 }
 
 // How many of the selector's 8 bytes a type uses.
+#[tactic(auto, unfolding(crate::specs::Rows::selector_width, answer::specs::Tests::pick))]
 pub fn selector_width(kind: u64) -> u64
     ensures { result ≡ selector_width kind }
 {
@@ -203,6 +215,7 @@ pub fn selector_width(kind: u64) -> u64
 // ---- what a value must satisfy
 
 // What a card offers in each word of features.
+#[tactic(auto, unfolding(crate::specs::Values::offered_word))]
 fn offered_word(i: usize) -> u64
     ensures { result ≡ offered_word i }
 {
@@ -214,6 +227,7 @@ fn offered_word(i: usize) -> u64
 }
 
 // Whether word `i` of features is what is offered there, or, where it need not be `exact`, has no bit beyond.
+#[tactic(auto, unfolding(answer::specs::Tests::pick, crate::specs::Values::within))]
 fn is_offered(exact: bool, v: &[u8], i: usize) -> bool
     requires { (i < word_room) × (8 * i + 8 ≤ length v.now) }
     ensures { result ≡ pick exact eqb within (field v.now (8 * i) 8) (offered_word i) }
@@ -227,6 +241,7 @@ fn is_offered(exact: bool, v: &[u8], i: usize) -> bool
 }
 
 // The same of each word that a card has: one, or two.
+#[tactic(auto, unfolding(crate::specs::Values::each_word))]
 fn are_offered(words: u8, exact: bool, v: &[u8]) -> bool
     requires { (is_card words ≡ true) × (8 * words ≤ length v.now) }
     ensures { result ≡ each_word (pick exact eqb within) words v.now }
@@ -277,6 +292,7 @@ fn fail_unless(code: u32, good: bool) -> Verdict
 }
 
 // Whether a value of the row's size meets the rule of the row's type. Features are to be `exact` in row 0.
+#[tactic(auto, unfolding(answer::specs::Checks::passes, crate::specs::Rows::size_of, crate::specs::Rows::size_in, crate::specs::Rows::width_of, answer::proofs::Tests::below, crate::specs::Values::valid_notify))]
 fn is_good(words: u8, row: usize, exact: bool, v: &[u8]) -> bool
     requires { (is_card words ≡ true) × (row < row_count) × (length v.now ≡ size_of words row) × (exact ≡ eqb row 0) }
     ensures { result ≡ passes (content_checks words (kind_of row) v.now) }
@@ -294,6 +310,7 @@ fn is_good(words: u8, row: usize, exact: bool, v: &[u8]) -> bool
 }
 
 // What a value that breaks its row's rule is refused by.
+#[tactic(auto, unfolding(answer::specs::Tests::pick))]
 fn content_code(row: usize) -> u32
     ensures { result ≡ pick (ltb row 2) Mismatch Value }
 {
@@ -315,6 +332,7 @@ pub fn check_content(words: u8, row: usize, v: &[u8]) -> Verdict
 // ---- the register file
 
 // A register that is not set.
+#[tactic(auto, unfolding(crate::specs::File::register_of))]
 pub fn unset() -> Register
     ensures { result ≡ register_of none }
 {
@@ -352,6 +370,7 @@ pub fn holding(v: &[u8]) -> Register
 }
 
 // What the row of offered features shows: the same register for every card, of which each has as many words as its value has.
+#[tactic(auto, unfolding(wire::specs::Field::bytes_of, crate::specs::Values::offered_word, crate::specs::Values::offered, crate::specs::File::register_of))]
 pub fn offered() -> Register
     ensures { result ≡ register_of (some (offered_bytes word_room)) }
 {
@@ -419,6 +438,7 @@ pub fn sound(words: u8, registers: Registers) -> bool
 }
 
 // No register set.
+#[tactic(auto, unfolding(crate::specs::File::slots_of, crate::specs::File::register_of))]
 pub fn blank() -> Registers
     ensures { result.slots ≡ slots_of blank_file }
 {
@@ -428,6 +448,7 @@ pub fn blank() -> Registers
 }
 
 // Status 0, and no other register set.
+#[tactic(auto, unfolding(crate::specs::File::reset, crate::specs::File::slots_of, crate::specs::File::register_of, crate::specs::File::with_value))]
 pub fn reset() -> Registers
     ensures { result.slots ≡ slots_of reset_file }
 {
@@ -441,6 +462,7 @@ pub fn reset() -> Registers
 
 // ---- setting and reading by type and selector number
 
+#[tactic(auto, unfolding(crate::specs::Access::selector_checks, crate::specs::Rows::selects))]
 fn check_selector(kind: u64, selector: u64) -> Verdict
     ensures { result ≡ selector_checks kind selector }
 {
@@ -452,6 +474,7 @@ fn check_selector(kind: u64, selector: u64) -> Verdict
     fail_unless(answer::INDEX, row_of(kind, selector) < ROWS)
 }
 
+#[tactic(auto, unfolding(crate::specs::Access::set_checks))]
 pub fn check_set(words: u8, kind: u64, selector: u64, v: &[u8]) -> Verdict
     requires { is_card words ≡ true }
     ensures { result ≡ set_checks words kind selector v.now }
@@ -488,6 +511,7 @@ pub fn set(registers: Registers, kind: u64, selector: u64, v: &[u8]) -> Register
 }
 
 // Reading into a buffer of `room` bytes.
+#[tactic(auto, unfolding(crate::specs::Access::read_checks))]
 pub fn check_read(words: u8, registers: Registers, kind: u64, selector: u64, room: usize) -> Verdict
     requires { words ≤ word_room }
     ensures { result ≡ read_checks words (file_of words registers) kind selector room }

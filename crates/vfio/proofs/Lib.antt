@@ -2,4 +2,3 @@ pub mod Entries
 pub mod Handlers
 pub mod Requests
 pub mod Plans
-pub mod Contracts

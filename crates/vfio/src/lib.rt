@@ -1,4 +1,6 @@
 // Requests on a VFIO container and on its device.
+#![tactic(auto)]
+
 ghost use Rattle.std.specs.Prelude.{◌≡◌, true, List, [], ◌∷◌, ◌+◌, ◌-◌, ◌^◌, ◌≤◌, ◌<◌, eqb, length, get_or};
 ghost use Rattle.answer.specs.Tests.{◌and◌};
 ghost use Rattle.answer.specs.Checks.{passes};
@@ -23,35 +25,35 @@ use interrupts::Lines;
 use iommu::{Mapping, Search, Unmap};
 
 // What checks 1 to 4 of a request come to, and the index of the request in the table.
-#[derive(Drop)]
+#[derive(Clone, Copy)]
 pub struct Admission {
     pub verdict: Verdict,
     pub index: usize,
 }
 
 // What a change of the container's IOMMU type comes to: its checks, and the type that the container is of then.
-#[derive(Drop)]
+#[derive(Clone, Copy)]
 pub struct IommuChange {
     pub verdict: Verdict,
     pub kind: u32,
 }
 
 // What a request to the interrupt lines comes to: its checks, and the lines to keep.
-#[derive(Drop)]
+#[derive(Clone, Copy)]
 pub struct IrqChange {
     pub verdict: Verdict,
     pub lines: Lines,
 }
 
 // What a map comes to: its checks, and the place of the new record.
-#[derive(Drop)]
+#[derive(Clone, Copy)]
 pub struct Map {
     pub verdict: Verdict,
     pub at: usize,
 }
 
 // The range of an unmap.
-#[derive(Drop)]
+#[derive(Clone, Copy)]
 pub struct Range {
     pub flags: u32,
     pub start: DeviceAddress,
@@ -120,6 +122,7 @@ fn identify(target: u32, number: u32) -> usize
 
 // ---- checks 2, 3 and 4
 
+#[tactic(auto, unfolding(emulator::specs::Requests::argsz_checks))]
 fn check_argsz(buf: &[u8], size: usize) -> Verdict
     requires { 4 ≤ length buf.now }
     ensures { result ≡ argsz_checks true size buf.now }
@@ -159,6 +162,7 @@ const PAGE_SIZES_GIVEN: u32 = 1;
 
 const PAGE_SIZES: u64 = 4096;
 
+#[tactic(auto, unfolding(emulator::specs::Requests::requested_type))]
 fn check_extension(buf: &[u8]) -> Answer
     requires { 4 ≤ length buf.now }
     ensures { Answers checkExtension buf.now (told result) buf.now }
@@ -170,6 +174,7 @@ fn check_extension(buf: &[u8]) -> Answer
 }
 
 // The checks of a change of the IOMMU type of a container that has `count` records in use and is of type `kind`, and the type to keep.
+#[tactic(auto, unfolding(emulator::specs::Requests::requested_type))]
 pub fn plan_iommu(count: usize, kind: u32, buf: &[u8]) -> IommuChange
     requires { 4 ≤ length buf.now }
     ensures { SetsIommu count kind buf.now result }
@@ -191,6 +196,7 @@ pub fn kept_type(c: IommuChange) -> u32
     c.kind
 }
 
+#[tactic(auto, unfolding(emulator::specs::Requests::listed_checks, emulator::specs::Requests::listed_effect, emulator::specs::Contract::request_writes))]
 fn get_iommu_info(buf: &mut [u8]) -> Answer
     requires { 16 ≤ length buf.old }
     ensures { Answers getIommuInfo buf.old (told result) buf.new }
@@ -201,6 +207,7 @@ fn get_iommu_info(buf: &mut [u8]) -> Answer
 }
 
 // The memory address stands before the device address.
+#[tactic(auto, unfolding(emulator::specs::Requests::requested_mapping))]
 fn requested_mapping(buf: &[u8]) -> Mapping
     requires { 32 ≤ length buf.now }
     ensures { result ≡ requested_mapping buf.now }
@@ -247,6 +254,7 @@ fn planned_map(
 }
 
 // The checks of a map for a memory of `size` bytes, and the place of the new record among those in use.
+#[tactic(auto, unfolding(walks::proofs::Walk::tables_of))]
 fn plan_map(records: &[Mapping], count: usize, size: u64, m: Mapping) -> Map
     requires { Sound (table_of records.now count) }
     ensures { Maps size (length records.now) (in_use (table_of records.now count)) m result }
@@ -280,6 +288,7 @@ fn one_more(count: usize) -> usize
 }
 
 // A map: its checks decide, and its answer is theirs.
+#[tactic(auto, unfolding(walks::proofs::Walk::tables_of))]
 pub fn map_dma(state: &mut State, records: &mut [Mapping], buf: &[u8]) -> Map
     requires { (sound_machine (length records.old) (machine_of state.old records.old) ≡ true) × (32 ≤ length buf.now) }
     ensures { Replies mapDma buf.now state.old records.old (settle result.verdict (value 0)) buf.now state.new records.new }
@@ -295,6 +304,7 @@ pub fn map_dma(state: &mut State, records: &mut [Mapping], buf: &[u8]) -> Map
     plan
 }
 
+#[tactic(auto, unfolding(emulator::specs::Requests::requested_start, emulator::specs::Requests::requested_size))]
 fn requested_range(buf: &[u8]) -> Range
     requires { 24 ≤ length buf.now }
     ensures { (result.flags ≡ field buf.now 4 4) × (result.start ≡ requested_start buf.now) × (result.size ≡ requested_size buf.now) }
@@ -332,6 +342,7 @@ fn planned_unmap(
 }
 
 // The checks of an unmap in a container of IOMMU type `kind`, and the records that it removes.
+#[tactic(auto, unfolding(walks::proofs::Walk::tables_of))]
 fn plan_unmap(records: &[Mapping], count: usize, kind: u32, range: Range) -> Unmap
     requires { Sound (table_of records.now count) }
     ensures { Unmaps kind (in_use (table_of records.now count)) range.flags range.start range.size result }
@@ -381,6 +392,7 @@ fn put_size(buf: &mut [u8], size: u64)
 }
 
 // An unmap, likewise.
+#[tactic(auto, unfolding(walks::proofs::Walk::tables_of))]
 pub fn unmap_dma(state: &mut State, records: &mut [Mapping], buf: &mut [u8]) -> Unmap
     requires { (sound_machine (length records.old) (machine_of state.old records.old) ≡ true) × (24 ≤ length buf.old) }
     ensures { Replies unmapDma buf.old state.old records.old (settle result.verdict (value 0)) buf.new state.new records.new }
@@ -414,6 +426,7 @@ const REGION_FLAGS: [u32; 9] = [7, 0, 0, 0, 0, 0, 0, 3, 0];
 // A region lies at its index times 2^40.
 const REGION_STRIDE: u64 = 0x10000000000;
 
+#[tactic(auto, unfolding(emulator::specs::Requests::listed_checks, emulator::specs::Requests::listed_effect, emulator::specs::Contract::request_writes))]
 fn get_info(buf: &mut [u8]) -> Answer
     requires { 16 ≤ length buf.old }
     ensures { Answers getInfo buf.old (told result) buf.new }
@@ -425,6 +438,7 @@ fn get_info(buf: &mut [u8]) -> Answer
 }
 
 // Flags, reserved bytes, size and offset are written, and nothing before the index is judged.
+#[tactic(auto, unfolding(emulator::specs::Requests::listed_checks, emulator::specs::Requests::requested_index))]
 fn get_region_info(buf: &mut [u8]) -> Answer
     requires { 32 ≤ length buf.old }
     ensures { Answers getRegionInfo buf.old (told result) buf.new }
@@ -441,6 +455,7 @@ fn get_region_info(buf: &mut [u8]) -> Answer
     Answer::Done(0)
 }
 
+#[tactic(auto, unfolding(emulator::specs::Requests::listed_checks, emulator::specs::Requests::requested_index))]
 fn get_irq_info(buf: &mut [u8]) -> Answer
     requires { 16 ≤ length buf.old }
     ensures { Answers getIrqInfo buf.old (told result) buf.new }

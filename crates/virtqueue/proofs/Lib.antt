@@ -5,5 +5,4 @@ pub mod Stepped
 pub mod CardReads
 pub mod Walking
 pub mod Loop
-pub mod Contracts
 pub mod Laws

@@ -1,5 +1,7 @@
 // The split virtqueue of a driver: the buffers that it offers between two indices of its ring, found by card reads. A walk reads one field of
 // the ring or one descriptor at a time; each of them is aligned and so lies in a single mapping.
+#![tactic(auto)]
+
 ghost use Rattle.std.specs.Prelude.{◌≡◌, ℕ, ◌+◌, ◌*◌, ◌<◌, ◌≤◌, true, length};
 ghost use Rattle.answer.specs.Answer.{Answer, done, ◌onward◌};
 ghost use Rattle.wire.specs.Field.{slice};
@@ -16,14 +18,14 @@ use answer::Verdict;
 use iommu::{Mapping, Search, Translation};
 
 // A queue as its register tells of it: how many descriptors it has, where they are, and where the driver's ring is.
-#[derive(Drop)]
+#[derive(Clone, Copy)]
 pub struct Queue {
     pub size: u16,
     pub table: u64,
     pub driver: u64,
 }
 
-#[derive(Drop)]
+#[derive(Clone, Copy)]
 pub struct Descriptor {
     pub address: u64,
     pub length: u32,
@@ -32,7 +34,7 @@ pub struct Descriptor {
 }
 
 // What a walk reads next.
-#[derive(Drop)]
+#[derive(Clone, Copy)]
 pub enum Stage {
     Index,
     Head,
@@ -43,7 +45,7 @@ pub enum Stage {
 // How far a walk has come. `place` is the index of the head that is read next or whose chain is followed, the caller's last index at first;
 // `heads` are finished, `left` are not. `more` descriptors at most may follow `descriptor`, the one that is read next, in its chain. A refusal
 // ends the walk.
-#[derive(Drop)]
+#[derive(Clone, Copy)]
 pub struct Walk {
     pub verdict: Verdict,
     pub stage: Stage,
@@ -57,7 +59,7 @@ pub struct Walk {
 }
 
 // Where a read finds its bytes in memory, or its refusal.
-#[derive(Drop)]
+#[derive(Clone, Copy)]
 pub enum Fetched {
     At(usize),
     Refused(u32, u64),
@@ -69,6 +71,7 @@ const NUMBERS: usize = 3;
 // ---- what is read
 
 // A start that does not fit into 64 bits stands for the last address, which is refused like it.
+#[tactic(auto, unfolding(crate::specs::Ring::capped))]
 fn offset(base: u64, n: u64) -> u64
     ensures { result ≡ capped (base + n) }
 {
@@ -78,6 +81,7 @@ fn offset(base: u64, n: u64) -> u64
     base + n
 }
 
+#[tactic(auto, unfolding(crate::specs::Steps::start_at, crate::specs::Ring::capped, answer::specs::Tests::pick))]
 fn start_of(q: Queue, w: Walk) -> u64
     requires { 0 < q.size }
     ensures { result ≡ capped (start_of q w) }
@@ -98,6 +102,7 @@ fn wanted(q: Queue, w: Walk) -> DeviceAddress
     DeviceAddress(start_of(q, w))
 }
 
+#[tactic(auto, unfolding(crate::specs::Steps::length_at))]
 fn length_of(w: Walk) -> usize
     ensures { result ≡ length_of w }
 {
@@ -111,6 +116,7 @@ fn length_of(w: Walk) -> usize
 }
 
 // A card read of `n` bytes that lie in one mapping, if in any: `m` is the one that holds the first.
+#[tactic(auto, unfolding(crate::specs::Steps::fetched_run))]
 fn fetch(m: Mapping, shadow: &[u8], d: DeviceAddress, n: usize) -> Fetched
     requires { Fetchable m d n (8 * length shadow.now) }
     ensures { (size : ℕ) → (holds m d ≡ true → in_range size m ≡ true) → result ≡ fetched_of (packed size shadow.now) m d n }
@@ -147,6 +153,7 @@ fn descriptor_at(bytes: &[u8], at: usize) -> Descriptor
 // ---- what comes of it
 
 // The walk that a refusal has ended.
+#[tactic(auto, unfolding(crate::specs::Steps::stopped))]
 fn ended(w: Walk, code: u32, place: u64) -> Walk
     ensures { result ≡ stopped_by w code place }
 {
@@ -164,6 +171,7 @@ fn ended(w: Walk, code: u32, place: u64) -> Walk
 }
 
 // What is read where so many heads are left.
+#[tactic(auto, unfolding(crate::specs::Steps::next_stage))]
 fn head_or_nothing(left: u16) -> Stage
     ensures { result ≡ next_stage left }
 {
@@ -174,6 +182,7 @@ fn head_or_nothing(left: u16) -> Stage
 }
 
 // The ring's index. What lies between the two is their difference modulo 2^16.
+#[tactic(auto, unfolding(crate::specs::Steps::indexed))]
 fn index_read(q: Queue, w: Walk, index: u16) -> Walk
     ensures { result ≡ gone_on w (indexed w) (near q w.place index) }
 {
@@ -195,6 +204,7 @@ fn index_read(q: Queue, w: Walk, index: u16) -> Walk
     }
 }
 
+#[tactic(auto, unfolding(crate::specs::Steps::entered))]
 fn head_read(q: Queue, w: Walk, head: u16) -> Walk
     requires { 0 < q.size }
     ensures { result ≡ gone_on w (entered q w) (in_table q w.heads head) }
@@ -216,6 +226,7 @@ fn head_read(q: Queue, w: Walk, head: u16) -> Walk
 }
 
 // The next descriptor of a chain.
+#[tactic(auto, unfolding(crate::specs::Steps::followed))]
 fn followed(q: Queue, w: Walk, next: u16) -> Walk
     requires { w.buffers ≤ 131072 }
     ensures { result ≡ gone_on w (followed_by w) (next_of q w next) }
@@ -240,6 +251,7 @@ fn followed(q: Queue, w: Walk, next: u16) -> Walk
 }
 
 // The end of a chain.
+#[tactic(auto, unfolding(crate::specs::Steps::finished, crate::specs::Ring::next_index))]
 fn head_finished(w: Walk) -> Walk
     requires { (0 < w.left) × (w.heads ≤ 256) × (w.buffers ≤ 131072) }
     ensures { result ≡ finished w }
@@ -287,6 +299,7 @@ fn put(numbers: &mut [u64], buffers: usize, x: Descriptor)
 }
 
 // What comes of a read that finds its bytes at `at`; the numbers of a descriptor go into the array if they are to be stored.
+#[tactic(auto, unfolding(crate::specs::Steps::length_at))]
 fn arrived(q: Queue, w: Walk, bytes: &[u8], at: usize, store: bool, numbers: &mut [u64]) -> Walk
     requires { (at + length_of w ≤ length bytes.now) × Steppable q w }
     ensures { (result ≡ stepped q w (done (slice bytes.now at (length_of w)))) × (numbers.new ≡ stored store w (done (slice bytes.now at (length_of w))) numbers.old) }
@@ -346,6 +359,7 @@ fn at_first(verdict: Verdict, stage: Stage, last: u16) -> Walk
 }
 
 // A walk from the caller's last index on that has read nothing, or whose first checks have refused it.
+#[tactic(auto, unfolding(crate::specs::Progress::begun, crate::specs::Progress::first_stage))]
 pub fn begin(verdict: Verdict, last: u16) -> Walk
     ensures { result ≡ begun verdict last }
 {
@@ -355,6 +369,7 @@ pub fn begin(verdict: Verdict, last: u16) -> Walk
     }
 }
 
+#[tactic(auto, unfolding(crate::specs::Steps::goes))]
 fn going(w: Walk) -> bool
     ensures { result ≡ goes w.stage }
 {
@@ -374,6 +389,7 @@ fn place_of(s: Search) -> usize
 }
 
 // Walks a queue to its end, or to the first refusal.
+#[tactic(auto, unfolding(walks::proofs::Walk::tables_of))]
 pub fn walk_queue(
     records: &[Mapping],
     count: usize,
@@ -406,6 +422,7 @@ pub fn walk_queue(
 }
 
 // The verdict on a walk that has ended, with room for so many numbers. No product is made, since it could wrap.
+#[tactic(auto, unfolding(crate::specs::Steps::stopped))]
 pub fn finish(w: Walk, room: usize) -> Walk
     ensures { (w.stage ≡ Nothing → result.stage ≡ Nothing) × ((a : Answer Walked) → Told w a → Told result (a onward fitting room)) }
 {
@@ -422,6 +439,7 @@ pub fn finish(w: Walk, room: usize) -> Walk
 }
 
 // The walk that stores what an accepted one has found: from the beginning again. One that was refused stores nothing.
+#[tactic(auto, unfolding(crate::specs::Progress::resumed_by))]
 pub fn again(from: Walk, judged: Walk) -> Walk
     ensures { result ≡ resumed from judged }
 {

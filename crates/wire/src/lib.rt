@@ -1,9 +1,12 @@
 // Bytes and little-endian fields of 1, 2, 4 and 8 bytes at a place of a byte slice.
+#![tactic(auto)]
+
 ghost use Rattle.std.specs.Prelude.{◌≡◌, ◌+◌, ◌≤◌, length, replicate};
 ghost use Rattle.std.proofs.lemmas.List.Edits.{sets};
 ghost use Rattle.wire.specs.Field.{field, bytes_of, slice};
 
 // A field is read as its two halves, down to bytes: the compiler makes one load of that, and none of a loop over the bytes.
+#[tactic(auto, unfolding(crate::specs::Field::field))]
 pub fn get_u8(s: &[u8], at: usize) -> u8
     requires { at + 1 ≤ length s.now }
     ensures { result ≡ field s.now at 1 }
@@ -39,6 +42,7 @@ pub fn get_u64(s: &[u8], at: usize) -> u64
 }
 
 // Writes a number as `width` bytes from `at` on.
+#[tactic(auto, unfolding(crate::specs::Field::bytes_of))]
 fn put(buf: &mut [u8], at: usize, width: usize, x: u64)
     requires { at + width ≤ length buf.old }
     ensures { buf.new ≡ sets buf.old at (bytes_of width x) }
