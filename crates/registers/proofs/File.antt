@@ -242,23 +242,4 @@ sound-tested w registers long free =
     let l = registers.slots in
     let status : is_some (current w (file_from w 1 l) status_row) ≡ flagged (get_or l 5 absent).set = ap is_some (current-kept w registers status_row (omega arith)) ∙ set_is w status_row _ in
     let all : sound_values_from w 1 (file_from w 1 l) ≡ sound_slots w l 0 14 = sound_slots_lem w l 14 0 (sym long) in
-    rw (← both_and, status, all, free 1 (omega arith) (omega arith), free 2 (omega arith) (omega arith), free 3 (omega arith) (omega arith), free 4 (omega arith) (omega arith), free 5 (omega arith) (omega arith)) (simp (and_assoc, bool.and_true))
-
--- ---- what owning the registers tells
-
--- what each element of an array tells of itself where it is owned
-owned_at : {X Y : Type 0} (into : X → Y) (own : Y → List Val → Fml) (P : X → Type 0) → ((x : X) (u : Val) → shadow (own (into x) (u ∷ [])) → P x)
-    → (l : List X) (us : List Val) → shadow (each Y own (map into l) us) → (d : X) (k : ℕ) → k < length l → P (get_or l k d)
-owned_at into own P tells [] us s d k lt = absurd (not-suc-le-zero lt)
-owned_at into own P tells (x ∷ l) [] s d k lt = absurd s
-owned_at into own P tells (x ∷ l) (u ∷ us) s d zero lt = tells x u s.0
-owned_at into own P tells (x ∷ l) (u ∷ us) s d (suc k) lt = owned_at into own P tells l us s.1 d k (omega arith)
-
--- there are as many registers as their type says, and each has 32 bytes
-pub slots_whole : (registers : Registers) (vs : List Val) → Is (row the_type) registers vs → length registers.slots ≡ 14
-slots_whole registers vs owned = length-mapped _ _ _ registers.slots 14 owned.1.1.0.1.0.1
-
-pub slot_whole : (registers : Registers) (vs : List Val) → Is (row the_type) registers vs → (k : ℕ) → k < 14
-    → length (get_or registers.slots k absent).bytes ≡ 32
-slot_whole registers vs owned k lt =
-    owned_at _ _ (λ (r : Register). length r.bytes ≡ 32) (λ r u s. length-mapped _ _ _ r.bytes 32 s.1.1.1.0.1.0.1) registers.slots _ owned.1.1.0.1.1 absent k (omega (arith, slots_whole registers vs owned))
+    rw (← both_and, status, all, free 1 (omega arith) (omega arith), free 2 (omega arith) (omega arith), free 3 (omega arith) (omega arith), free 4 (omega arith) (omega arith), free 5 (omega arith) (omega arith)) (simp (and_assoc, bool.and-true))
