@@ -1,12 +1,12 @@
 -- Laws of the checks of host transfers and of an invalidation, by the tests that decide them.
 use Prim.Native.Nat.{ℕ, ◌+◌, ◌≤◌, ◌<◌}
 use mathlib.Core.Path.{◌≡◌, refl, sym, ◌∙◌}
-use borrow.Author.Tests.{lt-leb, le-leb, lt-ltb, le-ltb, leb-true}
-use Rattle.answer.specs.Codes.{Range, TooLong}
+use borrow.Author.Tests.{lt-ltb, le-ltb, leb-true}
+use Rattle.answer.specs.Codes.{TooLong}
 use Rattle.answer.specs.Checks.{◌then◌}
 use Rattle.answer.specs.Limits.{transfer_limit, length_check}
 use Rattle.answer.specs.declared.Verdict.TheVariants.{Pass, Fail}
-use Rattle.answer.proofs.Checks.{then_pass, then_next, then_fail, when_true, when_false, unless_pass, unless_true, unless_false}
+use Rattle.answer.proofs.Checks.{then_pass, then_next, then_fail, when_true, when_false, unless_pass}
 use Rattle.address.specs.Address.{in_memory_range}
 use Rattle.address.specs.declared.MemoryAddress.{MemoryAddress}
 use Rattle.memory.specs.Shadow.{Shadow}

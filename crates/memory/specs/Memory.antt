@@ -1,5 +1,5 @@
 -- Memory: its bytes and its shadow, and the single-byte edits that calls make of them, in order.
-use Rattle.std.specs.Prelude.{ℕ, zero, suc, Bool, true, false, List, [], ◌∷◌, length, get_or, set}
+use Rattle.std.specs.Prelude.{ℕ, zero, suc, true, false, List, [], ◌∷◌, length, get_or, set}
 use Rattle.wire.specs.Field.{slice}
 use Rattle.address.specs.Address.{memory_offset}
 use Rattle.address.specs.declared.MemoryAddress.{MemoryAddress}
