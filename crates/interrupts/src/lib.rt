@@ -217,7 +217,6 @@ pub fn disabled() -> Lines
 }
 
 // Whether no line has a number below −1.
-#[tactic(auto, unfolding(crate::specs::Lines::lower, crate::specs::Lines::stored))]
 pub fn sound(l: Lines) -> bool
     ensures { result ≡ sound_lines l.lines }
 {
@@ -251,7 +250,6 @@ const TRIGGER: u32 = 4;
 const DATA: usize = 20;
 
 // Of three bits just one, and none beyond.
-#[tactic(auto, unfolding(crate::specs::Requests::one_of_three))]
 fn is_one_of_three(x: u32) -> bool
     ensures { result ≡ one_of_three x }
 {
@@ -280,7 +278,6 @@ fn is_action_taken(flags: u32, index: u32) -> bool
 }
 
 // Whether a request disables its index.
-#[tactic(auto, unfolding(crate::specs::Requests::disables))]
 fn disables(flags: u32, count: u32) -> bool
     ensures { result ≡ disables_index flags count }
 {
@@ -288,7 +285,6 @@ fn disables(flags: u32, count: u32) -> bool
 }
 
 // The checks of the fields, before the data. The sum is one of whole numbers: it does not wrap in 32 bits.
-#[tactic(auto, unfolding(crate::specs::Requests::field_checks))]
 fn check_fields(flags: u32, index: u32, start: u32, count: u32) -> Verdict
     ensures { result ≡ field_checks flags index start count }
 {
@@ -331,7 +327,7 @@ fn data_size(kind: u32, count: u32) -> usize
 }
 
 // Whether one of the event numbers is below −1. All are judged before any is stored.
-#[tactic(auto, unfolding(crate::specs::Requests::any_lower, crate::specs::Lines::lower, crate::specs::Requests::event_at))]
+#[tactic(auto, unfolding(crate::specs::Requests::any_lower))]
 fn any_lower(buf: &[u8], count: u32) -> bool
     requires { data_start + 4 * count ≤ length buf.now }
     ensures { result ≡ any_lower buf.now count }
@@ -366,7 +362,6 @@ fn check_data(buf: &[u8], flags: u32, count: u32) -> Verdict
 }
 
 // The checks of a request that has its 20 bytes and whose argsz is within the buffer.
-#[tactic(auto, unfolding(crate::specs::Requests::set_checks))]
 pub fn check_set(buf: &[u8]) -> Verdict
     requires { (data_start ≤ length buf.now) × (argsz_of buf.now ≤ length buf.now) }
     ensures { result ≡ set_checks buf.now }
@@ -395,7 +390,6 @@ fn act(l: Line, action: u32, auto: bool) -> Line
 }
 
 // Whether the line at offset `j` of the range is selected: where there are bytes, by any but 0.
-#[tactic(auto, unfolding(crate::specs::Requests::selected, crate::specs::Requests::byte_at))]
 fn is_selected(buf: &[u8], kind: u32, j: usize) -> bool
     requires { (kind ≡ kind_of (flags_of buf.now)) × (kind ≡ data_bool → data_start + j < length buf.now) }
     ensures { result ≡ selected buf.now j }
@@ -407,7 +401,6 @@ fn is_selected(buf: &[u8], kind: u32, j: usize) -> bool
 }
 
 // What becomes of the line at offset `j` of the range: its event number is read here, or its byte, and nothing where there are no data.
-#[tactic(auto, unfolding(answer::specs::Tests::pick, crate::specs::Requests::event_at))]
 fn change(l: Line, buf: &[u8], flags: u32, whole: bool, auto: bool, j: usize) -> Line
     requires { (flags ≡ flags_of buf.now) × (whole ≡ disables_index flags (count_of buf.now)) × (auto ≡ automasked (index_of buf.now)) × (j < range_count buf.now) × (data_start + count_of buf.now * width (kind_of flags) ≤ length buf.now) }
     ensures { result ≡ changed_line buf.now j l }
@@ -474,7 +467,6 @@ pub fn set(l: Lines, buf: &[u8]) -> Lines
 
 // ---- showing a line
 
-#[tactic(auto, unfolding(crate::specs::Requests::show_checks))]
 pub fn check_show(index: u32, line: u32) -> Verdict
     ensures { result ≡ show_checks index line }
 {
