@@ -5,12 +5,11 @@ use native.Mathlib.Numerals.{add-one}
 use native.Mathlib.Omega.{arith}
 use mathlib.Core.Path.{◌≡◌, refl, sym, ◌∙◌, ap}
 use mathlib.Core.Bool.{Bool, true, false, true≢false}
-use mathlib.Core.List.{List, [], ◌∷◌, ◌++◌, append-nil}
+use mathlib.Core.List.{List, [], ◌++◌, append-nil}
 use lib.ListN.{length, take, drop, length-append, get_or-append}
 use lib.Seq.{take_all, take-append-le, drop-append_seam}
 use lib.Dec.{eqb}
 use borrow.Author.Tests.{eq-eqb, eqb-true, eqb-false}
-use Rattle.answer.specs.Tests.{◌and◌}
 use Rattle.answer.proofs.Tests.{and_true, and_made, is_false}
 use Rattle.wire.specs.Field.{field, bytes_of}
 use Rattle.wire.proofs.Laws.{length-bytes, field_cong, field-drop, field-bytes}

@@ -6,7 +6,7 @@ use native.Mathlib.Omega.{arith}
 use mathlib.Core.Path.{◌≡◌, refl, sym, ◌∙◌, ap}
 use mathlib.Core.Bool.{Bool, true, false, not, ◌&&◌, ◌||◌, false≢true, or-true, and_assoc}
 use mathlib.Core.Bool as bool
-use mathlib.Core.List.{List, [], ◌∷◌, map}
+use mathlib.Core.List.{List, [], ◌∷◌}
 use mathlib.Core.Option.{Option, none, some}
 use lib.ListN.{length, get_or, set, take, drop, replicate, drop_of_length-le}
 use lib.Seq.{sets, take_at, take-append-le, length-take-le, drop-cons, sets-eq}
@@ -22,7 +22,6 @@ use Rattle.answer.specs.Checks.{◌then◌, ◌when◌, ◌unless◌, passes}
 use Rattle.answer.specs.declared.Verdict.{Verdict}
 use Rattle.answer.specs.declared.Verdict.TheVariants.{Pass, Fail}
 use Rattle.answer.proofs.Tests.{and_true, and_made, both_and}
-use Rattle.answer.proofs.Arrays.{length-mapped}
 use Rattle.wire.specs.Field.{bytes_of}
 use Rattle.registers.specs.Rows.{row_count, status_row, kind_of, size_of}
 use Rattle.registers.specs.Cards.{word_room}
@@ -30,6 +29,7 @@ use Rattle.registers.specs.Values.{offered, content_checks, value_checks}
 use Rattle.registers.specs.File.{File, current, sound_values_from, sound_value, sound_file, register_value, file_from, file_of, register_of, slots_of, sized_from}
 use Rattle.registers.specs.declared.Register.{Register}
 use Rattle.registers.specs.declared.Registers.{Registers}
+use Rattle.registers.specs.contracts.Register.{the_row}
 use Rattle.registers.specs.contracts.Registers.{the_type}
 use Rattle.registers.proofs.Rows.{size-most, features-size}
 use Rattle.registers.proofs.Features.{offered-length, offered-take, offered-exact}
@@ -243,3 +243,22 @@ sound-tested w registers long free =
     let status : is_some (current w (file_from w 1 l) status_row) ≡ flagged (get_or l 5 absent).set = ap is_some (current-kept w registers status_row (omega arith)) ∙ set_is w status_row _ in
     let all : sound_values_from w 1 (file_from w 1 l) ≡ sound_slots w l 0 14 = sound_slots_lem w l 14 0 (sym long) in
     rw (← both_and, status, all, free 1 (omega arith) (omega arith), free 2 (omega arith) (omega arith), free 3 (omega arith) (omega arith), free 4 (omega arith) (omega arith), free 5 (omega arith) (omega arith)) (simp (and_assoc, bool.and-true))
+
+-- ---- what owning the registers tells
+
+-- what each element of an array tells of itself where it is owned
+owned_at : {X : Type 0} (own : X → List Val → Fml) (P : X → Type 0) → ((x : X) (u : Val) → shadow (own x (u ∷ [])) → P x)
+    → (l : List X) (us : List Val) → shadow (each X own l us) → (d : X) (k : ℕ) → k < length l → P (get_or l k d)
+owned_at own P tells [] us s d k lt = absurd (not-suc-le-zero lt)
+owned_at own P tells (x ∷ l) [] s d k lt = absurd s
+owned_at own P tells (x ∷ l) (u ∷ us) s d zero lt = tells x u s.0
+owned_at own P tells (x ∷ l) (u ∷ us) s d (suc k) lt = owned_at own P tells l us s.1 d k (omega arith)
+
+-- there are as many registers as their type says, and each has 32 bytes
+pub slots_whole : (registers : Registers) (vs : List Val) → Is (row the_type) registers vs → length registers.slots ≡ 14
+slots_whole registers vs owned = owned.1.1.0.1.0.1
+
+pub slot_whole : (registers : Registers) (vs : List Val) → Is (row the_type) registers vs → (k : ℕ) → k < 14
+    → length (get_or registers.slots k absent).bytes ≡ 32
+slot_whole registers vs owned k lt =
+    owned_at the_row.own_val (λ (r : Register). length r.bytes ≡ 32) (λ r u s. s.1.1.1.0.1.0.1) registers.slots _ owned.1.1.0.1.1 absent k (omega (arith, slots_whole registers vs owned))

@@ -1,6 +1,6 @@
 -- Setting and reading a register by type and selector number, each list of checks in the order of its rule.
 -- Both numbers are whole ones, and nothing of them is cut off (rule 5.17). `w` is the number of words that the card has of features.
-use Rattle.std.specs.Prelude.{ℕ, Bool, false, List, [], ltb, eqb}
+use Rattle.std.specs.Prelude.{ℕ, false, List, [], ltb, eqb}
 use Rattle.std.proofs.Math.Option.{Option, none, some}
 use Rattle.answer.specs.Tests.{◌and◌, is_some}
 use Rattle.answer.specs.Codes.{Index, Header, UnknownPart, Unset, ReadOnly, NoSpace}

@@ -1,5 +1,5 @@
 -- The rows of the register table (rule 5.2), by rising type and then rising selector.
-use Rattle.std.specs.Prelude.{ℕ, zero, suc, ◌*◌, Bool, List, [], ◌∷◌, length, get_or, ltb, leb, eqb}
+use Rattle.std.specs.Prelude.{ℕ, zero, suc, ◌*◌, Bool, List, [], ◌∷◌, get_or, ltb, leb, eqb}
 use Rattle.answer.specs.Tests.{◌and◌, pick}
 
 -- the part types

@@ -57,7 +57,6 @@ pub fn words_of(card: Card) -> u8
     }
 }
 
-#[tactic(auto, unfolding(crate::specs::Cards::is_card))]
 pub fn is_card(words: u8) -> bool
     ensures { result ≡ is_card words }
 {
@@ -93,7 +92,7 @@ const SELECTORS: [u64; 15] = [0, 0, 0, 8, 16, 22, 0, 0, 1, 2, 3, 0, 1, 2, 3];
 
 // Types and sizes go by ranges of rows: soundness asks for both of every register in every call, and a constant table that is indexed is
 // built anew on the stack each time.
-#[tactic(auto, unfolding(crate::specs::Rows::kind_of, answer::proofs::Tests::below))]
+#[tactic(auto, unfolding(crate::specs::Rows::kind_of))]
 pub fn kind_of(row: usize) -> u64
     requires { row < row_count }
     ensures { result ≡ kind_of row }
@@ -125,7 +124,7 @@ pub fn selector_of(row: usize) -> u64
 }
 
 // The size of a row's value on a card with so many words of features.
-#[tactic(auto, unfolding(crate::specs::Rows::size_of, crate::specs::Rows::size_in, crate::specs::Rows::width_of, answer::proofs::Tests::below))]
+#[tactic(auto, unfolding(crate::specs::Rows::size_of, crate::specs::Rows::size_in, crate::specs::Rows::width_of))]
 pub fn size_of(words: u8, row: usize) -> usize
     requires { row < row_count }
     ensures { result ≡ size_of words row }
@@ -149,7 +148,6 @@ pub fn size_of(words: u8, row: usize) -> usize
 }
 
 // The row of a common field at an offset, or `ROWS`.
-#[tactic(auto, unfolding(crate::specs::Rows::row_of, crate::specs::Rows::row_from, crate::specs::Rows::kind_of, crate::specs::Rows::selector_of, answer::specs::Tests::pick))]
 fn common_row(offset: u64) -> usize
     ensures { result ≡ row_of CommonField offset }
 {
@@ -176,7 +174,6 @@ fn row_among(first: usize, count: u64, selector: u64) -> usize
 }
 
 // The row of a type and a selector number, or `ROWS`.
-#[tactic(auto, unfolding(crate::specs::Rows::row_of, crate::specs::Rows::row_from, crate::specs::Rows::kind_of, crate::specs::Rows::selector_of, answer::proofs::Tests::below, answer::specs::Tests::pick))]
 pub fn row_of(kind: u64, selector: u64) -> usize
     ensures { result ≡ row_of kind selector }
 {
@@ -191,7 +188,6 @@ pub fn row_of(kind: u64, selector: u64) -> usize
     }
 }
 
-#[tactic(auto, unfolding(crate::specs::Rows::listed))]
 pub fn is_listed(kind: u64) -> bool
     ensures { result ≡ listed kind }
 {
@@ -241,7 +237,6 @@ fn is_offered(exact: bool, v: &[u8], i: usize) -> bool
 }
 
 // The same of each word that a card has: one, or two.
-#[tactic(auto, unfolding(crate::specs::Values::each_word))]
 fn are_offered(words: u8, exact: bool, v: &[u8]) -> bool
     requires { (is_card words ≡ true) × (8 * words ≤ length v.now) }
     ensures { result ≡ each_word (pick exact eqb within) words v.now }
@@ -292,7 +287,7 @@ fn fail_unless(code: u32, good: bool) -> Verdict
 }
 
 // Whether a value of the row's size meets the rule of the row's type. Features are to be `exact` in row 0.
-#[tactic(auto, unfolding(answer::specs::Checks::passes, crate::specs::Rows::size_of, crate::specs::Rows::size_in, crate::specs::Rows::width_of, answer::proofs::Tests::below, crate::specs::Values::valid_notify))]
+#[tactic(auto, unfolding(crate::specs::Rows::size_of, crate::specs::Rows::size_in, crate::specs::Rows::width_of))]
 fn is_good(words: u8, row: usize, exact: bool, v: &[u8]) -> bool
     requires { (is_card words ≡ true) × (row < row_count) × (length v.now ≡ size_of words row) × (exact ≡ eqb row 0) }
     ensures { result ≡ passes (content_checks words (kind_of row) v.now) }
@@ -462,7 +457,6 @@ pub fn reset() -> Registers
 
 // ---- setting and reading by type and selector number
 
-#[tactic(auto, unfolding(crate::specs::Access::selector_checks, crate::specs::Rows::selects))]
 fn check_selector(kind: u64, selector: u64) -> Verdict
     ensures { result ≡ selector_checks kind selector }
 {
@@ -474,7 +468,6 @@ fn check_selector(kind: u64, selector: u64) -> Verdict
     fail_unless(answer::INDEX, row_of(kind, selector) < ROWS)
 }
 
-#[tactic(auto, unfolding(crate::specs::Access::set_checks))]
 pub fn check_set(words: u8, kind: u64, selector: u64, v: &[u8]) -> Verdict
     requires { is_card words ≡ true }
     ensures { result ≡ set_checks words kind selector v.now }
@@ -511,7 +504,6 @@ pub fn set(registers: Registers, kind: u64, selector: u64, v: &[u8]) -> Register
 }
 
 // Reading into a buffer of `room` bytes.
-#[tactic(auto, unfolding(crate::specs::Access::read_checks))]
 pub fn check_read(words: u8, registers: Registers, kind: u64, selector: u64, room: usize) -> Verdict
     requires { words ≤ word_room }
     ensures { result ≡ read_checks words (file_of words registers) kind selector room }

@@ -1,0 +1,10 @@
+-- `registers::is_valid_queue` meets its contract.
+use Rattle.answer.proofs.Tests.{both_and}
+use Rattle.registers.proofs.Values.{queue-tested}
+use Rattle.registers.proofs.is_valid_queue.Goals as goal
+
+pub returns : goal.returns
+returns c =
+    simp both_and
+    (rw (c.is_valid_size-sized.ensures, c.get_u16.ensures, c.get_u32-enabled.ensures, c.get_u64.ensures, c.get_u64-2.ensures, c.get_u64-3.ensures)
+    (queue-tested c.args.v.now))
