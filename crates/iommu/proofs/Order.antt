@@ -14,7 +14,7 @@ use Rattle.answer.proofs.Tests.{and_true, and_made, and_false, and_second, or_fa
 use Rattle.address.specs.Address.{device_offset}
 use Rattle.address.specs.declared.DeviceAddress.{DeviceAddress}
 use Rattle.iommu.specs.declared.Mapping.{Mapping}
-use Rattle.iommu.specs.declared.Translation.TheVariants.{At, Nowhere}
+use Rattle.iommu.specs.declared.Translation.TheVariants.{Nowhere}
 use Rattle.iommu.specs.Table.{blank, end, holds, shown, shown_by, translate, sound_mapping, sound_mappings_from, sound_table, touches, inside, begins_in, sticks_out, any_of, overlaps, cuts, blocked, insert, without, total_size, inserted_at, without_run, sizes_between, first_past}
 use Rattle.iommu.specs.Requests.{Removes}
 use Rattle.iommu.proofs.Soundness.{mapping-facts, sound_split, sound-at}

@@ -4,7 +4,7 @@ use native.Mathlib.Omega.{arith}
 use mathlib.Core.Path.{◌≡◌, refl, sym, ◌∙◌}
 use mathlib.Core.Bool.{Bool, true, false, true≢false}
 use mathlib.Core.List.{List}
-use lib.Dec.{leb, ltb, eqb}
+use lib.Dec.{ltb, eqb}
 use lib.ListN.{length, get_or, length-append, length-drop, get_or-eq_default}
 use lib.Seq.{length-take-le}
 use borrow.Author.Tests.{eqb-true, ltb-true, ltb-false, lt-ltb, le-leb}
@@ -13,10 +13,10 @@ use Rattle.answer.specs.declared.Verdict.{Verdict}
 use Rattle.answer.specs.declared.Verdict.TheVariants.{Pass, Fail}
 use Rattle.answer.proofs.Tests.{and_made, pick_true, pick_false}
 use Rattle.answer.proofs.Checks.{never}
-use Rattle.address.specs.Address.{device_limit, memory_limit, device_offset, in_device_range, in_memory_range}
+use Rattle.address.specs.Address.{memory_limit, device_offset, in_device_range, in_memory_range}
 use Rattle.address.specs.declared.DeviceAddress.{DeviceAddress}
 use Rattle.iommu.specs.declared.Mapping.{Mapping}
-use Rattle.iommu.specs.declared.Translation.TheVariants.{At, Nowhere}
+use Rattle.iommu.specs.declared.Translation.TheVariants.{Nowhere}
 use Rattle.iommu.specs.declared.Search.{Search}
 use Rattle.iommu.specs.declared.Unmap.{Unmap}
 use Rattle.iommu.specs.Table.{blank, holds, shown, shown_by, translate, mapped, in_range, sound_table, sticks_out, overlaps, cuts, blocked, removed, insert, inserted_at, without_run, first_past, Placed}

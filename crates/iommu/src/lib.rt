@@ -60,7 +60,6 @@ pub struct Unmap {
 }
 
 // Whether there are containers of that IOMMU type.
-#[tactic(auto, unfolding(crate::specs::Table::is_iommu_type))]
 pub fn is_iommu_type(kind: u32) -> bool
     ensures { result ≡ is_iommu_type kind }
 {
@@ -68,7 +67,6 @@ pub fn is_iommu_type(kind: u32) -> bool
 }
 
 // READ, WRITE or both, and no other bit.
-#[tactic(auto, unfolding(crate::specs::Table::valid_rights))]
 fn valid_rights(rights: u32) -> bool
     ensures { result ≡ valid_rights rights }
 {
@@ -85,7 +83,6 @@ fn aligned_mapping(m: Mapping) -> bool
 
 // Whether a mapping ends at 2^48 or below, and inside a memory of `size` bytes. Memory is asked first: a size that fits it fits the other
 // range by itself, and the compiler leaves that test out.
-#[tactic(auto, unfolding(crate::specs::Table::in_range))]
 fn in_range(size: u64, m: Mapping) -> bool
     ensures { result ≡ in_range size m }
 {
@@ -93,7 +90,6 @@ fn in_range(size: u64, m: Mapping) -> bool
 }
 
 // Whether a mapping passes the checks that the map request makes of it alone.
-#[tactic(auto, unfolding(crate::specs::Table::sound_mapping))]
 fn sound_mapping(m: Mapping, size: u64) -> bool
     ensures { result ≡ sound_mapping size m }
 {
@@ -110,7 +106,6 @@ fn sound_mapping(m: Mapping, size: u64) -> bool
 }
 
 // Where the record behind `m` may begin, if `m` is sound and begins at `low` or later; else a number past every device address.
-#[tactic(auto, unfolding(crate::specs::Table::next_low))]
 fn next_low(low: u64, m: Mapping, size: u64) -> u64
     ensures { result ≡ next_low size low m }
 {
@@ -136,7 +131,6 @@ fn blank_mapping() -> Mapping
 }
 
 // The record in use at a place; a blank one behind the last.
-#[tactic(auto, unfolding(crate::specs::Table::in_use, walks::proofs::Walk::tables_of))]
 pub fn get(records: &[Mapping], count: usize, i: usize) -> Mapping
     requires { count ≤ length records.now }
     ensures { result ≡ get_or (in_use (table_of records.now count)) i blank }
@@ -156,7 +150,6 @@ fn cannot_hold(room: usize, count: usize) -> bool
 
 // Whether the records in use may be trusted with a memory of `size` bytes. It is asked of any values at all, so the count is tested before
 // a record is read.
-#[tactic(auto, unfolding(crate::proofs::Lows::sound_low, walks::proofs::Walk::tables_of))]
 pub fn sound(records: &[Mapping], count: usize, size: u64) -> bool
     ensures { result ≡ (leb (length records.now) capacity and leb count (length records.now) and sound_table size (in_use (table_of records.now count))) }
 {
@@ -176,7 +169,6 @@ pub fn sound(records: &[Mapping], count: usize, size: u64) -> bool
 }
 
 // Whether a mapping holds a device address.
-#[tactic(auto, unfolding(crate::specs::Table::holds))]
 fn holds(m: Mapping, d: DeviceAddress) -> bool
     ensures { result ≡ held m d }
 {
@@ -212,7 +204,6 @@ fn middle(s: Search) -> usize
 }
 
 // A search that has looked at the record in its middle: it stops there, or goes on below or above that place.
-#[tactic(auto, unfolding(crate::specs::Halving::probed, crate::specs::Halving::middle_of))]
 fn probe(s: Search, m: Mapping, d: DeviceAddress) -> Search
     requires { Open s }
     ensures { result ≡ probed m d s }
@@ -244,7 +235,6 @@ fn probe(s: Search, m: Mapping, d: DeviceAddress) -> Search
 }
 
 // The place of a device address among the records in use, by halving.
-#[tactic(auto, unfolding(walks::proofs::Walk::tables_of))]
 pub fn find(records: &[Mapping], count: usize, d: DeviceAddress) -> Search
     requires { Sound (table_of records.now count) }
     ensures { (result ≡ searched count (in_use (table_of records.now count)) d (search_of count)) × Placed (in_use (table_of records.now count)) d result.lo result.held }
@@ -257,7 +247,6 @@ pub fn find(records: &[Mapping], count: usize, d: DeviceAddress) -> Search
 }
 
 // What a mapping says of a device address.
-#[tactic(auto, unfolding(crate::specs::Table::in_range, address::specs::Address::in_memory_range, crate::specs::Table::shown_by, crate::specs::Table::address_in, crate::specs::Table::left_in))]
 pub fn shown_by(m: Mapping, d: DeviceAddress) -> Translation
     requires { held m d ≡ true → in_range memory_limit m ≡ true }
     ensures { result ≡ shown_by m d }
@@ -270,7 +259,6 @@ pub fn shown_by(m: Mapping, d: DeviceAddress) -> Translation
 }
 
 // The checks of the request that sets a container's IOMMU type, with that many records in use.
-#[tactic(auto, unfolding(crate::specs::Requests::set_iommu_checks))]
 pub fn check_set_iommu(count: usize, kind: u32) -> Verdict
     ensures { result ≡ set_iommu_checks count kind }
 {
@@ -293,7 +281,6 @@ fn overlaps(m: Mapping, count: usize, at: usize, next: Mapping) -> bool
 
 // The checks of the map request, for a memory of `size` bytes and a table of `room` records of which `count` are in use. `next` is the
 // record at the place that was found for the mapping's start.
-#[tactic(auto, unfolding(crate::specs::Requests::map_checks, crate::specs::Table::in_range, address::specs::Address::in_device_range))]
 pub fn check_map(
     m: Mapping,
     size: u64,
@@ -333,7 +320,6 @@ fn aligned_range(d: DeviceAddress, n: u64) -> bool
 }
 
 // One past the last of the `n` device addresses from `d` on; of a range past 2^48, which is refused, its start.
-#[tactic(auto, unfolding(address::specs::Address::in_device_range, crate::specs::Requests::end_of))]
 pub fn end_of(d: DeviceAddress, n: u64) -> DeviceAddress
     ensures { result ≡ end_of d n }
 {
@@ -344,7 +330,6 @@ pub fn end_of(d: DeviceAddress, n: u64) -> DeviceAddress
 }
 
 // Whether a mapping begins before a device address that it holds.
-#[tactic(auto, unfolding(crate::specs::Table::sticks_out))]
 fn sticks_out(m: Mapping, d: DeviceAddress) -> bool
     ensures { result ≡ sticks_out m d }
 {
@@ -362,7 +347,6 @@ fn refused_unmap(code: u32) -> Unmap
 }
 
 // The records from place `from` up to but not including `to` go. Where none do, both are the count, so that none is moved.
-#[tactic(auto, unfolding(crate::specs::Requests::removing_run))]
 fn removing(count: usize, from: usize, to: usize) -> Unmap
     ensures { result ≡ removing_run count from to }
 {
@@ -435,7 +419,6 @@ fn remove_beginning(
 
 // The checks of the unmap request by the container's IOMMU type, and the records that go: `first` and `last` are the places found for its
 // range's two ends, and `x` and `y` the records there.
-#[tactic(auto, unfolding(crate::specs::Requests::unmap_checks, crate::specs::Table::removed, answer::specs::Tests::pick))]
 pub fn check_unmap(
     kind: u32,
     flags: u32,
@@ -468,7 +451,6 @@ pub fn check_unmap(
 }
 
 // Puts a mapping at a place among the records in use: those from there on move up by one.
-#[tactic(auto, unfolding(walks::proofs::Walk::tables_of))]
 pub fn insert(records: &mut [Mapping], count: usize, at: usize, m: Mapping)
     requires { (at ≤ count) × (count < length records.old) }
     ensures { records.new ≡ holding (inserted_at at m (in_use (table_of records.old count))) records.old }
@@ -491,7 +473,6 @@ fn added(sum: u64, m: Mapping) -> u64
 }
 
 // The sum of the sizes of the records from place `from` up to but not including `to`.
-#[tactic(auto, unfolding(walks::proofs::Walk::tables_of))]
 pub fn sizes(records: &[Mapping], count: usize, from: usize, to: usize) -> u64
     requires { (Sound (table_of records.now count)) × (from ≤ to) × (to ≤ count) }
     ensures { result ≡ sizes_between from to (in_use (table_of records.now count)) }
@@ -507,7 +488,6 @@ pub fn sizes(records: &[Mapping], count: usize, from: usize, to: usize) -> u64
 
 // Removes the records from place `from` up to but not including `to`: those behind them move down. Records past the new count keep what
 // they held.
-#[tactic(auto, unfolding(walks::proofs::Walk::tables_of))]
 pub fn close(records: &mut [Mapping], count: usize, from: usize, to: usize)
     requires { (from ≤ to) × (to ≤ count) × (count ≤ length records.old) }
     ensures { records.new ≡ holding (without_run from to (in_use (table_of records.old count))) records.old }
