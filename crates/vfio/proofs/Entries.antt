@@ -5,14 +5,14 @@ use native.Mathlib.Numerals.{add-one}
 use mathlib.Core.Path.{◌≡◌, refl, sym, ◌∙◌}
 use mathlib.Core.Bool.{Bool, true, false}
 use mathlib.Core.List.{List, map}
-use mathlib.Core.Option.{none, some}
+use mathlib.Core.Option.{some}
 use lib.ListN.{length, get_or, drop, drop_of_length-le, get_or-map}
 use lib.Seq.{drop-cons}
 use lib.Dec.{eqb, ltb, leb}
 use borrow.Author.Tests.{eq-eqb, ne_eqb, lt-ltb, le-ltb, ltb-true, ltb-false, leb-true}
 use Rattle.answer.specs.Tests.{◌and◌, pick}
 use Rattle.answer.specs.Codes.{NoSuchRequest, Short}
-use Rattle.answer.specs.Checks.{◌then◌, ◌when◌, ◌unless◌}
+use Rattle.answer.specs.Checks.{◌then◌, ◌when◌}
 use Rattle.answer.specs.declared.Verdict.TheVariants.{Pass, Fail}
 use Rattle.answer.proofs.Tests.{and_true, below, below_at, pick_true}
 use Rattle.answer.proofs.Checks.{never, then_pass, when_pass, unless_pass}

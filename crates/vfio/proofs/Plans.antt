@@ -7,7 +7,7 @@ use mathlib.Core.List.{List, [], ◌∷◌}
 use lib.ListN.{length, get_or, length-append, length-drop}
 use lib.Seq.{length-take-le}
 use Rattle.answer.specs.Checks.{passes}
-use Rattle.answer.specs.Answer.{Answer, done, refused, settle}
+use Rattle.answer.specs.Answer.{settle}
 use Rattle.answer.specs.declared.Verdict.{Verdict}
 use Rattle.answer.specs.declared.Verdict.TheVariants.{Pass, Fail}
 use Rattle.answer.proofs.Checks.{passes-is, passes-not}
@@ -24,7 +24,7 @@ use Rattle.iommu.proofs.Passes.{in_use-length}
 use Rattle.iommu.proofs.Changes.{length-insert, map-passed}
 use Rattle.iommu.proofs.Order.{past_bound, insert-placed}
 use Rattle.emulator.specs.Machine.{machine_of, sound}
-use Rattle.emulator.specs.Effect.{Result, value, output, filled}
+use Rattle.emulator.specs.Effect.{value, output, filled}
 use Rattle.emulator.specs.Requests.{map_dma, unmap_dma, requested_mapping, requested_start, requested_size}
 use Rattle.emulator.specs.Contract.{with_count_in}
 use Rattle.emulator.specs.declared.State.{State}

@@ -1,5 +1,5 @@
 -- The table of requests by index, as the code searches it.
-use Rattle.std.specs.Prelude.{ℕ, false, List, [], length, get_or, ltb}
+use Rattle.std.specs.Prelude.{ℕ, false, [], get_or, ltb}
 use Rattle.std.proofs.Math.Option.{Option, none, some}
 use Rattle.answer.specs.Tests.{pick}
 use Rattle.emulator.specs.Requests.{get_api_version, Entry, entry, requests}

@@ -122,7 +122,6 @@ fn identify(target: u32, number: u32) -> usize
 
 // ---- checks 2, 3 and 4
 
-#[tactic(auto, unfolding(emulator::specs::Requests::argsz_checks))]
 fn check_argsz(buf: &[u8], size: usize) -> Verdict
     requires { 4 ≤ length buf.now }
     ensures { result ≡ argsz_checks true size buf.now }
@@ -162,7 +161,6 @@ const PAGE_SIZES_GIVEN: u32 = 1;
 
 const PAGE_SIZES: u64 = 4096;
 
-#[tactic(auto, unfolding(emulator::specs::Requests::requested_type))]
 fn check_extension(buf: &[u8]) -> Answer
     requires { 4 ≤ length buf.now }
     ensures { Answers check_extension buf.now (told result) buf.now }
@@ -174,7 +172,6 @@ fn check_extension(buf: &[u8]) -> Answer
 }
 
 // The checks of a change of the IOMMU type of a container that has `count` records in use and is of type `kind`, and the type to keep.
-#[tactic(auto, unfolding(emulator::specs::Requests::requested_type))]
 pub fn plan_iommu(count: usize, kind: u32, buf: &[u8]) -> IommuChange
     requires { 4 ≤ length buf.now }
     ensures { SetsIommu count kind buf.now result }
@@ -196,7 +193,6 @@ pub fn kept_type(c: IommuChange) -> u32
     c.kind
 }
 
-#[tactic(auto, unfolding(emulator::specs::Requests::listed_checks, emulator::specs::Requests::listed_effect, emulator::specs::Contract::request_writes))]
 fn get_iommu_info(buf: &mut [u8]) -> Answer
     requires { 16 ≤ length buf.old }
     ensures { Answers get_iommu_info buf.old (told result) buf.new }
@@ -254,7 +250,6 @@ fn planned_map(
 }
 
 // The checks of a map for a memory of `size` bytes, and the place of the new record among those in use.
-#[tactic(auto, unfolding(walks::proofs::Walk::tables_of))]
 fn plan_map(records: &[Mapping], count: usize, size: u64, m: Mapping) -> Map
     requires { Sound (table_of records.now count) }
     ensures { Maps size (length records.now) (in_use (table_of records.now count)) m result }
@@ -264,6 +259,7 @@ fn plan_map(records: &[Mapping], count: usize, size: u64, m: Mapping) -> Map
     planned_map(m, size, records.len(), count, found, next)
 }
 
+#[tactic(auto, unfolding(answer::specs::Checks::passes))]
 fn goes_ahead(m: Map) -> bool
     ensures { result ≡ passes m.verdict }
 {
@@ -288,7 +284,6 @@ fn one_more(count: usize) -> usize
 }
 
 // A map: its checks decide, and its answer is theirs.
-#[tactic(auto, unfolding(walks::proofs::Walk::tables_of))]
 pub fn map_dma(state: &mut State, records: &mut [Mapping], buf: &[u8]) -> Map
     requires { (sound_machine (length records.old) (machine_of state.old records.old) ≡ true) × (32 ≤ length buf.now) }
     ensures { Replies map_dma buf.now state.old records.old (settle result.verdict (value 0)) buf.now state.new records.new }
@@ -342,7 +337,6 @@ fn planned_unmap(
 }
 
 // The checks of an unmap in a container of IOMMU type `kind`, and the records that it removes.
-#[tactic(auto, unfolding(walks::proofs::Walk::tables_of))]
 fn plan_unmap(records: &[Mapping], count: usize, kind: u32, range: Range) -> Unmap
     requires { Sound (table_of records.now count) }
     ensures { Unmaps kind (in_use (table_of records.now count)) range.flags range.start range.size result }
@@ -354,6 +348,7 @@ fn plan_unmap(records: &[Mapping], count: usize, kind: u32, range: Range) -> Unm
     planned_unmap(kind, range, count, first, x, last, y)
 }
 
+#[tactic(auto, unfolding(answer::specs::Checks::passes))]
 fn removes(u: Unmap) -> bool
     ensures { result ≡ passes u.verdict }
 {
@@ -392,7 +387,6 @@ fn put_size(buf: &mut [u8], size: u64)
 }
 
 // An unmap, likewise.
-#[tactic(auto, unfolding(walks::proofs::Walk::tables_of))]
 pub fn unmap_dma(state: &mut State, records: &mut [Mapping], buf: &mut [u8]) -> Unmap
     requires { (sound_machine (length records.old) (machine_of state.old records.old) ≡ true) × (24 ≤ length buf.old) }
     ensures { Replies unmap_dma buf.old state.old records.old (settle result.verdict (value 0)) buf.new state.new records.new }
@@ -426,7 +420,6 @@ const REGION_FLAGS: [u32; 9] = [7, 0, 0, 0, 0, 0, 0, 3, 0];
 // A region lies at its index times 2^40.
 const REGION_STRIDE: u64 = 0x10000000000;
 
-#[tactic(auto, unfolding(emulator::specs::Requests::listed_checks, emulator::specs::Requests::listed_effect, emulator::specs::Contract::request_writes))]
 fn get_info(buf: &mut [u8]) -> Answer
     requires { 16 ≤ length buf.old }
     ensures { Answers get_info buf.old (told result) buf.new }
@@ -438,7 +431,6 @@ fn get_info(buf: &mut [u8]) -> Answer
 }
 
 // Flags, reserved bytes, size and offset are written, and nothing before the index is judged.
-#[tactic(auto, unfolding(emulator::specs::Requests::listed_checks, emulator::specs::Requests::requested_index))]
 fn get_region_info(buf: &mut [u8]) -> Answer
     requires { 32 ≤ length buf.old }
     ensures { Answers get_region_info buf.old (told result) buf.new }
@@ -455,7 +447,6 @@ fn get_region_info(buf: &mut [u8]) -> Answer
     Answer::Done(0)
 }
 
-#[tactic(auto, unfolding(emulator::specs::Requests::listed_checks, emulator::specs::Requests::requested_index))]
 fn get_irq_info(buf: &mut [u8]) -> Answer
     requires { 16 ≤ length buf.old }
     ensures { Answers get_irq_info buf.old (told result) buf.new }
