@@ -133,7 +133,7 @@ unfolding run shown Balances
 balances a e h [] w = tt
 balances a e h (q ∷ qs) w =
     let r = turn_balanced q a (w 0) e h in
-    (r, balances _ _ r qs (λ n. w (suc n)))
+    (r, balances (entered (turn (w 0) q e).outcome.answer q (turn (w 0) q e).buffer a) (turn (w 0) q e).left r qs (λ n. w (suc n)))
 
 -- a fresh start that is accepted holds nothing; a refused one does not answer with a result
 fresh_balanced : (card : Card) (e : Emulator) (v : Verdict) → settle v (value 0) ≡ done (value 0)

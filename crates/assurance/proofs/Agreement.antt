@@ -177,9 +177,11 @@ alike e f s (q ∷ qs) w v =
     let f' : Emulator = disturbed (v 0) q.room f in
     let s' : Same e' f' = same-disturbed (w 0) (v 0) q.room e f s in
     let o : outcome q.call (lent_to (w 0) q) e' ≡ outcome q.call (lent_to (v 0) q) f' = same_outcome e' f' s' refl (w 0) (v 0) q in
-    let left : Same (after (outcome q.call (lent_to (w 0) q) e').effect e') (after (outcome q.call (lent_to (v 0) q) f').effect f') =
+    let e'' : Emulator = after (outcome q.call (lent_to (w 0) q) e').effect e' in
+    let f'' : Emulator = after (outcome q.call (lent_to (v 0) q) f').effect f' in
+    let left : Same e'' f'' =
     rw (← o) (same_after e' f' s' refl (outcome q.call (lent_to (w 0) q) e').effect) in
-    (o, left, alike _ _ left qs (λ n. w (suc n)) (λ n. v (suc n)))
+    (o, left, alike e'' f'' left qs (λ n. w (suc n)) (λ n. v (suc n)))
 
 pub agreement : (e f : Emulator) → Same e f → (qs : List Ask) (w v : ℕ → Others) → Alike (run e qs w) (run f qs v)
 agreement e f s = alike e f s

@@ -274,7 +274,7 @@ unfolding run Follows
 follows l e h [] w = tt
 follows l e h (q ∷ qs) w =
     let r = turn-follows l q (w 0) e h in
-    (r.0, follows _ _ r.1 qs (λ n. w (suc n)))
+    (r.0, follows (fed (turn (w 0) q e).outcome.answer q l) (turn (w 0) q e).left r.1 qs (λ n. w (suc n)))
 
 -- ---- a fresh start: whatever memory held, nothing of it is written
 

@@ -17,7 +17,7 @@ use Rattle.emulator.specs.Contract.{Meets, writes, returned, left_records}
 use Rattle.emulator.specs.declared.State.{State}
 use Rattle.emulator.proofs.Returned.{meets-after}
 use Rattle.assurance.specs.Runs.{Ask, Others, disturbed, lent_to, event, turn, run, Same, Alike}
-use Rattle.assurance.specs.Ledger.{Ledger, empty, Follows}
+use Rattle.assurance.specs.Ledger.{Ledger, empty, fed, Follows}
 use Rattle.assurance.specs.Session.{Shown, shown, Lent, Session, none, more, Roomy, SessionsAreRuns, AllAgree, AllOwed, Sessions}
 use Rattle.assurance.proofs.Agreement.{agreement}
 use Rattle.assurance.proofs.Following.{following}
@@ -32,10 +32,12 @@ shown_eq p q r = λ i. record { answer = p i; buffer = q i; left = r i }
 pub is-run : (s : State) (left : List Mapping) (m : Memory) (qs : List Ask) (w : ℕ → Others) (xs : List Shown) → Session s left m qs w xs → xs ≡ map shown (run (emulator_of s left m) qs w)
 unfolding run shown
 is-run s left m [] w [] none = refl
-is-run s left m (q ∷ qs) w (x ∷ xs) (more {rs} l h rest) =
+is-run s left m [] w (x ∷ xs) h = elim h [ ]
+is-run s left m (q ∷ qs) w [] h = elim h [ ]
+is-run s left m (q ∷ qs) w (x ∷ xs) (more {s' = s'} {rs = rs} {rs' = rs'} {m' = m'} l h rest) =
     let t = meets-turn (w 0) q s left rs m l h in
     ap₂ (λ (y : Shown) (ys : List Shown). y ∷ ys) (shown_eq t.0 t.1 t.2)
-    (is-run _ _ _ qs (λ n. w (suc n)) xs rest ∙ ap (λ (e : Emulator). map shown (run e qs (λ n. w (suc n)))) t.2)
+    (is-run s' rs' m' qs (λ n. w (suc n)) xs rest ∙ ap (λ (e : Emulator). map shown (run e qs (λ n. w (suc n)))) t.2)
 
 -- records that a call can be lent: those in use, and as many more as it says
 spared : (ms : List Mapping) (room : ℕ) → List Mapping
@@ -95,13 +97,13 @@ all-agree e f (q ∷ qs) w v a = (
     second = ap (λ (o : Outcome). filled o.effect.pieces (lent_to (v 0) q)) (sym a.0);
     left = a.1;
   },
-  all-agree _ _ qs (λ n. w (suc n)) (λ n. v (suc n)) a.2,
+  all-agree (turn (w 0) q e).left (turn (v 0) q f).left qs (λ n. w (suc n)) (λ n. v (suc n)) a.2,
 )
 
 all-owed : (l : Ledger) (e : Emulator) (qs : List Ask) (w : ℕ → Others) → Follows l qs (run e qs w) → AllOwed l qs (map shown (run e qs w))
 unfolding run shown Follows AllOwed
 all-owed l e [] w h = tt
-all-owed l e (q ∷ qs) w h = (h.0, all-owed _ _ qs (λ n. w (suc n)) h.1)
+all-owed l e (q ∷ qs) w h = (h.0, all-owed (fed (turn (w 0) q e).outcome.answer q l) (turn (w 0) q e).left qs (λ n. w (suc n)) h.1)
 
 -- ---- demand 3 of the code
 
