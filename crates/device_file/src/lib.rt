@@ -9,7 +9,7 @@ ghost use Rattle.answer.specs.Answer.{refused as refusal};
 ghost use Rattle.answer.specs.declared.Verdict.TheVariants.{Pass};
 ghost use Rattle.wire.specs.Field.{bytes_of};
 ghost use Rattle.device_file.specs.Layout.{DtIndex, prefix_size, is_magic, is_type, is_sub, least_length, fits as fitting, valid_content};
-ghost use Rattle.device_file.specs.Read.{length_at, room_end, at_level, record_fault, own_length, region_end, at_end, header_checks, read_file};
+ghost use Rattle.device_file.specs.Read.{length_at, room_end, at_level, record_fault, own_length, region_end as end_of_region, at_end, header_checks, read_file};
 ghost use Rattle.device_file.specs.Write.{bare_fits, start_checks, append_checks, appended, start_file, read_used, append_record};
 ghost use Rattle.device_file.specs.Scan.{or_none, region_after, Inside, behind as behind_of, scan_of, HasRoom, header_of, no_record, Hands, reply_of, Writes};
 
@@ -34,14 +34,12 @@ const INTERRUPT: u32 = 4;
 
 // ---- what a record must satisfy
 
-#[tactic(auto, unfolding(crate::specs::Layout::is_magic))]
 fn is_magic(x: u32) -> bool
     ensures { result ≡ is_magic x }
 {
     (x == 0x70636900) | (x == 0x64740000)
 }
 
-#[tactic(auto, unfolding(crate::specs::Layout::is_type))]
 fn is_type(kind: u32) -> bool
     ensures { result ≡ is_type kind }
 {
@@ -49,7 +47,6 @@ fn is_type(kind: u32) -> bool
 }
 
 // Whether records of a type stand inside a REGION.
-#[tactic(auto, unfolding(crate::specs::Layout::is_sub))]
 fn is_sub(kind: u32) -> bool
     ensures { result ≡ is_sub kind }
 {
@@ -79,7 +76,6 @@ fn least_length(kind: u32) -> usize
     LEAST_LENGTHS[kind as usize]
 }
 
-#[tactic(auto, unfolding(crate::specs::Layout::fits, answer::specs::Tests::pick))]
 fn fits(kind: u32, length: usize) -> bool
     ensures { result ≡ fitting kind length }
 {
@@ -137,7 +133,6 @@ fn refused(code: u32, place: u64) -> Scanned
     }
 }
 
-#[tactic(auto, unfolding(crate::specs::Read::header_checks, answer::specs::Limits::length_check))]
 fn check_header(file: &[u8]) -> Verdict
     ensures { result ≡ header_checks file.now }
 {
@@ -166,7 +161,6 @@ fn room_at(file: &[u8], at: usize, region_end: usize) -> usize
 }
 
 // The checks of the record at a place, in their order. Lengths are compared with what is left, so that no sum can wrap.
-#[tactic(auto, unfolding(crate::specs::Read::in_region, crate::specs::Read::record_fault, crate::specs::Read::record_checks))]
 fn check_record(file: &[u8], at: usize, region_end: usize) -> Verdict
     requires { (at ≤ length_of file.now) × (region_end ≤ length_of file.now) }
     ensures { result ≡ record_fault file.now at region_end }
@@ -211,7 +205,7 @@ fn own_length(file: &[u8], at: usize) -> usize
 #[tactic(auto, unfolding(crate::specs::Read::region_end, answer::specs::Tests::pick))]
 fn end_after(file: &[u8], at: usize, region_end: usize) -> usize
     requires { at + prefix_size ≤ length_of file.now }
-    ensures { result ≡ region_end file.now at region_end }
+    ensures { result ≡ end_of_region file.now at region_end }
 {
     if wire::get_u32(file, at) == REGION {
         return at + wire::get_u32(file, at + 4) as usize;
@@ -264,7 +258,6 @@ fn is_end(file: &[u8], at: usize, region_end: usize) -> bool
 }
 
 // Judges the whole file, and finds record `n`, the first being 0.
-#[tactic(auto, unfolding(crate::specs::Scan::behind))]
 fn scan(file: &[u8], n: u64) -> Scanned
     ensures { result ≡ scan_of n (read_file file.now) }
 {
@@ -306,7 +299,6 @@ pub struct Header {
     pub flags: u32,
 }
 
-#[tactic(auto, unfolding(crate::specs::Scan::header_of, crate::specs::Read::file_of))]
 pub fn read(file: &[u8]) -> Header
     ensures { result ≡ header_of (read_file file.now) }
 {
@@ -397,7 +389,6 @@ fn not_written(code: u32, place: u64) -> Written
     }
 }
 
-#[tactic(auto, unfolding(crate::specs::Write::start_checks, answer::specs::Limits::length_check))]
 fn check_start(room: usize, magic: u32) -> Verdict
     ensures { result ≡ start_checks room magic }
 {
@@ -414,7 +405,6 @@ fn check_start(room: usize, magic: u32) -> Verdict
 }
 
 // Starts a file: its header, and no record.
-#[tactic(auto, unfolding(crate::specs::Write::start_file, crate::specs::Write::started))]
 pub fn start(buf: &mut [u8], magic: u32, version: u32, flags: u32) -> Written
     ensures { Writes buf.old (start_file buf.old magic version flags) result buf.new }
 {
@@ -456,7 +446,6 @@ fn bare_fits(kind: u32, length: usize) -> bool
 }
 
 // The checks of a record to append behind the bytes in use, whose last record outside begins at `region` if it is a REGION.
-#[tactic(auto, unfolding(crate::specs::Write::record_length, crate::specs::Write::append_checks))]
 fn check_append(room: usize, used: usize, region: usize, kind: u32, content: &[u8]) -> Verdict
     requires { used ≤ room }
     ensures { result ≡ append_checks room used (or_none region) kind content.now }
@@ -490,7 +479,7 @@ fn grow(buf: &mut [u8], region: usize, length: u32)
 }
 
 // Writes a record behind the bytes in use; a sub-record makes its REGION longer.
-#[tactic(auto, unfolding(crate::specs::Write::record_length, crate::specs::Write::appended))]
+#[tactic(auto, unfolding(crate::specs::Write::record_length))]
 fn put_record(buf: &mut [u8], used: usize, region: usize, kind: u32, content: &[u8])
     requires { HasRoom buf.old used region kind content.now }
     ensures { buf.new ≡ (appended buf.old used (or_none region) kind content.now).buffer }
@@ -506,7 +495,6 @@ fn put_record(buf: &mut [u8], used: usize, region: usize, kind: u32, content: &[
 }
 
 // Appends a record to the file in the buffer's first `used` bytes. Nothing is written before the last check has passed.
-#[tactic(auto, unfolding(crate::specs::Write::append_to, crate::specs::Write::record_length, crate::specs::Write::appended))]
 pub fn append(buf: &mut [u8], used: usize, kind: u32, content: &[u8]) -> Written
     ensures { Writes buf.old (append_record buf.old used kind content.now) result buf.new }
 {
