@@ -39,8 +39,10 @@ fuzz: $(library)
 	$(build) rust/differential/Cargo.toml
 	rust/differential/target/release/glint-differential --seconds $(SECONDS)
 
-# The proved library, made anew where a source has changed. It proves again only the crates that a change touches, and capi.
+# The proved library, made anew where a source has changed. It proves again only the crates that a change touches, and those above them.
 library: $(library)
 
 $(library): $(sources)
-	rt staticlib capi
+	cd crates/capi && rt lib
+	mkdir -p $(dir $@)
+	cp crates/capi/out/libcapi.a $@

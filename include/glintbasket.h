@@ -1,7 +1,7 @@
 /*
  * Glintbasket for C11 and C++: a strict, verified emulator of the host side of VFIO.
  *
- * Link with libcapi.a (x86-64 Linux), which `rt staticlib capi` writes to target/staticlib.
+ * Link with libcapi.a (x86-64 Linux), which `make library` writes to target/staticlib.
  *
  * The first half of this file declares the library: structs, constants and functions. The second half is a thin layer over it,
  * struct glint_bench and the functions glint_bench_*, which keeps the state for the caller. Most programs need the second half alone:

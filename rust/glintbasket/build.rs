@@ -1,4 +1,4 @@
-//! Finds the proved static library: in GLINT_STATICLIB_DIR, or where `rt staticlib capi` writes it in this repository.
+//! Finds the proved static library: in GLINT_STATICLIB_DIR, or where `make library` writes it in this repository.
 use std::env;
 use std::path::{Path, PathBuf};
 use std::process;
@@ -12,7 +12,7 @@ fn main() {
     println!("cargo:rerun-if-changed={}", library.display());
     if !library.exists() {
         eprintln!(
-            "{} is not there: run `rt staticlib capi` at the repository's root, or set {VARIABLE}",
+            "{} is not there: run `make library` at the repository's root, or set {VARIABLE}",
             library.display()
         );
         process::exit(1);

@@ -104,7 +104,7 @@
 //!
 //! # Linking
 //!
-//! The emulator is written in Rattle and proved; `rt staticlib capi` writes it as `libcapi.a` (x86-64 Linux). The build script looks for
+//! The emulator is written in Rattle and proved; `make library` writes it as `libcapi.a` (x86-64 Linux). The build script looks for
 //! it in the directory that the environment variable `GLINT_STATICLIB_DIR` names, or in the repository's `target/staticlib`.
 //!
 //! All `unsafe` code is in the module [`raw`], which declares the library's functions and gives each a safe form. A [`Bench`] stands on
