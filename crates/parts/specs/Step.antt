@@ -1,6 +1,6 @@
 -- One step over a stream of parts (rules 6.2 to 6.4).
 -- A part has a header of 16 bytes, type (2), flags (1), reserved (1), selector (8) and length (4), and then its value (rule 5.1).
-use Rattle.std.specs.Prelude.{ℕ, ◌+◌, ◌-◌, Bool, List, [], length, drop, ltb, eqb}
+use Rattle.std.specs.Prelude.{ℕ, ◌+◌, ◌-◌, List, [], length, drop, ltb, eqb}
 use Rattle.answer.specs.Tests.{pick}
 use Rattle.answer.specs.Codes.{Truncated, Header}
 use Rattle.answer.specs.Checks.{◌then◌, ◌when◌, ◌unless◌, ◌at◌}

@@ -35,7 +35,6 @@ pub enum Step {
 pub const HEADER_SIZE: usize = 16;
 
 // The part at place `at`, where `h` is what is left of the stream there.
-#[tactic(auto, unfolding(crate::specs::Step::value_size, crate::specs::Step::part_at))]
 fn part_at(h: &[u8], at: usize) -> Step
     requires { at + length h.now < 2 ^ 64 }
     ensures { result ≡ part_step h.now at }
@@ -138,7 +137,6 @@ fn selector_limit(kind: u64) -> u64
 }
 
 // A part of a listed type. It names a row of the table, which a part named before where `twice` is true.
-#[tactic(auto, unfolding(crate::specs::Load::listed_checks, registers::specs::Rows::selects))]
 fn check_listed(
     words: u8,
     row: usize,
@@ -169,7 +167,6 @@ fn check_listed(
     registers::check_content(words, row, v)
 }
 
-#[tactic(auto, unfolding(crate::specs::Load::part_checks, answer::specs::Tests::pick))]
 fn check_part(
     words: u8,
     row: usize,
@@ -208,7 +205,6 @@ fn refused(code: u32, place: u64) -> Loaded
 }
 
 // The end of the stream, at place `at`, where `named` is whether a part named status. Registers that no part named are not set.
-#[tactic(auto, unfolding(crate::specs::Load::loaded_of))]
 fn finish(words: u8, slots: [Register; registers::SLOTS], named: bool, at: usize) -> Loaded
     requires { (slots ≡ slots_of (file_from words 1 slots)) × (named ≡ is_some (current words (file_from words 1 slots) status_row)) }
     ensures { (x : Option (List ℕ)) → result ≡ loaded_of (finished (seen_in words x slots) at) }
@@ -278,7 +274,6 @@ fn load_parts(words: u8, s: &[u8]) -> Loaded
 }
 
 // Loads a stream on a card with so many words of features.
-#[tactic(auto, unfolding(crate::specs::Load::load, answer::specs::Answer::settle, answer::specs::Limits::length_check))]
 pub fn load(words: u8, running: bool, s: &[u8]) -> Loaded
     requires { is_card words ≡ true }
     ensures { result ≡ loaded_of (loading words running s.now) }
@@ -346,7 +341,6 @@ fn saved_length(words: u8, registers: Registers) -> usize
 }
 
 // Saving into a buffer of `room` bytes.
-#[tactic(auto, unfolding(crate::specs::Save::save_checks))]
 pub fn check_save(words: u8, registers: Registers, running: bool, room: usize) -> Verdict
     requires { words ≤ word_room }
     ensures { result ≡ save_checks words running (file_of words registers) room }
