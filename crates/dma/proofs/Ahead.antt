@@ -5,12 +5,11 @@ use native.Mathlib.Nat.{add-zero}
 use native.Mathlib.Omega.{arith}
 use mathlib.Core.Path.{◌≡◌, refl, sym, ◌∙◌, ap}
 use mathlib.Core.Bool.{true}
-use mathlib.Core.List.{List}
 use lib.ListN.{length, get_or}
 use Rattle.answer.specs.Checks.{first_fault}
 use Rattle.answer.specs.declared.Verdict.{Verdict}
 use Rattle.answer.proofs.Tests.{pick_true}
-use Rattle.address.specs.Address.{memory_address, memory_offset, device_offset, device_limit, memory_limit}
+use Rattle.address.specs.Address.{memory_offset, device_offset, device_limit, memory_limit}
 use Rattle.address.specs.declared.DeviceAddress.{DeviceAddress}
 use Rattle.address.specs.declared.MemoryAddress.{MemoryAddress}
 use Rattle.iommu.specs.Table.{Table, blank, end, holds, address_in, left_in, shown_by, translate, in_range, sound_table, in_use, Sound, first_past}
@@ -19,7 +18,7 @@ use Rattle.iommu.specs.declared.Translation.{Translation}
 use Rattle.iommu.specs.declared.Translation.TheVariants.{At, Nowhere}
 use Rattle.iommu.proofs.Soundness.{sound-wider}
 use Rattle.iommu.proofs.Passes.{in_use-length}
-use Rattle.iommu.proofs.Order.{past_bound, past-holder, past_next, shown-end, translate-placed}
+use Rattle.iommu.proofs.Order.{past-holder, past_next, shown-end, translate-placed}
 use Rattle.iommu.proofs.Requests.{record_range}
 use Rattle.dma.specs.Transfers.{location}
 use Rattle.dma.specs.Walk.{Ready, Contiguous, RunBounds, run_length, judged_run, judged_by, judged}

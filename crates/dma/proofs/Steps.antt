@@ -19,7 +19,7 @@ use Rattle.answer.proofs.Tests.{and_true, and_second}
 use Rattle.answer.proofs.Checks.{never, then_pass, then_fail, then_assoc, when_pass, unless_pass, first_fault-all, first_fault_pass, first_fault-at, first_fault_cong, passes-run, first_fault-run}
 use Rattle.wire.specs.Field.{slice}
 use Rattle.wire.proofs.Laws.{sets-all}
-use Rattle.address.specs.Address.{device_limit, memory_address, device_offset, in_device_range}
+use Rattle.address.specs.Address.{device_limit, device_offset, in_device_range}
 use Rattle.address.specs.declared.DeviceAddress.{DeviceAddress}
 use Rattle.address.specs.declared.MemoryAddress.{MemoryAddress}
 use Rattle.iommu.specs.Table.{Table, shown_by, translate, mapped, in_range, in_use, first_past}
