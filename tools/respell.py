@@ -16,13 +16,14 @@ import sys
 
 NAME = r"[^\s(){}.,;@`\"|\[\]⌜⌝!?/:=&*<>#\\$]+"
 TOKEN = re.compile(NAME)
+SEVERAL = re.compile(r"\s+(?:pub )?([a-z]\w*(?: [a-z]\w*)+) :\s")
 DEFINED = re.compile(r"(\s*)((?:(?:abbrev|unfoldable|pub|data|record|ruleset)\s+)*)(" + NAME + r")\s*(?:\([^=]*?\)\s*|\{[^=]*?\}\s*)*:\s")
 
 # Where the rule alone would give a name that is taken, or that says less than the old one.
 CHOSEN = {"get_d_kept": "get_or-kept"} | {
     lemma: lemma.replace("-", "_") + "_lem"
     for lemma in """all_right api-version at_level bare-fits done-if first_past goes_on host-read host-write in-range in-table in_use no-row or-none or-zero
-        past_end round_trip run_length same_answer same_bytes sound-slots""".split()
+        past_end round_trip run_length same_answer same_bytes set-iommu set-irqs sound-slots""".split()
 }
 
 # Words of the library that a dash may join to one of ours.
@@ -41,6 +42,8 @@ def defined(text):
         m = DEFINED.match(line)
         if m and not re.match(r"\s*(--|use\b|infix|module|unfolding|let\b|in\b|λ)", line) and m[3] not in ("let", "in", "_", "λ"):
             found.append(m[3])
+        elif m := SEVERAL.match(line):
+            found += m[1].split()
     return found
 
 
