@@ -23,8 +23,8 @@ use Rattle.memory.specs.Memory.{Memory}
 use Rattle.registers.specs.declared.Card.{Card}
 use Rattle.emulator.specs.Machine.{Emulator, emulator_of, both, usable, sound, sound_mappings, powered_on, with_mappings, with_registers, with_running, with_iommu_type, with_lines}
 use Rattle.emulator.specs.Effect.{value, Outcome, effect_of, outcome_of, after, filled}
-use Rattle.emulator.specs.Requests.{Request, getApiVersion, checkExtension, setIommu, getIommuInfo, mapDma, unmapDma, getInfo, getRegionInfo, getIrqInfo, setIrqs, resetDevice, Entry, requests, identify, requested_start, requested_size, listed_checks, size_checks, request_checks, listed_effect, request_effect}
-use Rattle.emulator.specs.Calls.{Call, power_on, request, look_up, device_read, device_write, host_write, host_read, invalidate, set_register, read_register, show_line, walk_queue, loadParts, saveParts, stop, start, given, input, own_checks, checks, effect, probes_of, outcome}
+use Rattle.emulator.specs.Requests.{Request, get_api_version, check_extension, set_iommu, get_iommu_info, map_dma, unmap_dma, get_info, get_region_info, get_irq_info, set_irqs, reset_device, Entry, requests, identify, requested_start, requested_size, listed_checks, size_checks, request_checks, listed_effect, request_effect}
+use Rattle.emulator.specs.Calls.{Call, power_on, request, look_up, device_read, device_write, host_write, host_read, invalidate, set_register, read_register, show_line, walk_queue, load_parts, save_parts, stop, start, given, input, own_checks, checks, effect, probes_of, outcome}
 use Rattle.emulator.specs.declared.State.{State}
 use Rattle.emulator.proofs.Returned.{meets-after}
 use Rattle.assurance.specs.Overwrite.{mask}
@@ -44,17 +44,17 @@ usable_total test e h = omega (arith, size-limit test _ _ (and_true _ _ (and_tru
 
 -- the size that a request's size field needs
 abbrev size_field : Request → ℕ
-size_field getApiVersion = 0
-size_field checkExtension = 0
-size_field setIommu = 0
-size_field getIommuInfo = 0
-size_field mapDma = 0
-size_field unmapDma = 24
-size_field getInfo = 0
-size_field getRegionInfo = 0
-size_field getIrqInfo = 0
-size_field setIrqs = 0
-size_field resetDevice = 0
+size_field get_api_version = 0
+size_field check_extension = 0
+size_field set_iommu = 0
+size_field get_iommu_info = 0
+size_field map_dma = 0
+size_field unmap_dma = 24
+size_field get_info = 0
+size_field get_region_info = 0
+size_field get_irq_info = 0
+size_field set_irqs = 0
+size_field reset_device = 0
 
 -- ---- each accepted call
 
@@ -62,20 +62,20 @@ module _ (a : Account) (e : Emulator) (buf lent : List ℕ) (same : length lent 
   listed_balanced : (q : Request) → usable both e ≡ true → size_field q ≤ length lent
       → Balanced (entered_request q buf (filled (listed_effect q buf e).pieces lent) a) (listed_effect q buf e).machine.mappings
   unfolding Balanced entered_request listed_effect filled with_mappings with_registers with_iommu_type with_lines requested_size
-  listed_balanced getApiVersion good long = h
-  listed_balanced checkExtension good long = h
-  listed_balanced setIommu good long = h
-  listed_balanced getIommuInfo good long = h
-  listed_balanced mapDma good long = rw (insert_total _ e.machine.mappings) (omega (arith, h))
-  listed_balanced unmapDma good long =
+  listed_balanced get_api_version good long = h
+  listed_balanced check_extension good long = h
+  listed_balanced set_iommu good long = h
+  listed_balanced get_iommu_info good long = h
+  listed_balanced map_dma good long = rw (insert_total _ e.machine.mappings) (omega (arith, h))
+  listed_balanced unmap_dma good long =
       let test : Mapping → Bool = removed e.machine.iommu_type e.machine.mappings (requested_start buf) (requested_size buf) in
       rw (field-sets lent 16 8 (total_size test e.machine.mappings) long (usable_total test e good))
       (omega (arith, h, without_total test e.machine.mappings))
-  listed_balanced getInfo good long = h
-  listed_balanced getRegionInfo good long = h
-  listed_balanced getIrqInfo good long = h
-  listed_balanced setIrqs good long = h
-  listed_balanced resetDevice good long = h
+  listed_balanced get_info good long = h
+  listed_balanced get_region_info good long = h
+  listed_balanced get_irq_info good long = h
+  listed_balanced set_irqs good long = h
+  listed_balanced reset_device good long = h
 
   -- an accepted request; its size has room for its size field
   RequestBalanced : Option Entry → Type 0
@@ -105,8 +105,8 @@ module _ (a : Account) (e : Emulator) (buf lent : List ℕ) (same : length lent 
   call_balanced (read_register kind selector) good ok = h
   call_balanced (show_line index i) good ok = h
   call_balanced (walk_queue queue last) good ok = h
-  call_balanced loadParts good ok = h
-  call_balanced saveParts good ok = h
+  call_balanced load_parts good ok = h
+  call_balanced save_parts good ok = h
   call_balanced stop good ok = h
   call_balanced start good ok = h
 

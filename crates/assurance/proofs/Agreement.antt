@@ -157,9 +157,9 @@ module _ (e f : Emulator) (s : Same e f) (level : e.room ≡ f.room) where
   unfolding after shadowed_by byte_at
   same_after o =
       let g : Emulator = shadowed_by e.memory.shadow f in
-      let seenAfter : seen (after o e) ≡ seen (after o g) = seen-after o e g (same→seen e f s level) in
+      let seen_after : seen (after o e) ≡ seen (after o g) = seen-after o e g (same→seen e f s level) in
       let bytes : (edited o.edits g.memory).bytes ≡ (edited o.edits f.memory).bytes = edited-bytes o.edits g.memory f.memory refl in
-      let one = seen_parts (after o e) (after o g) seenAfter in
+      let one = seen_parts (after o e) (after o g) seen_after in
       record {
         machine = refl;
         shadow = edited-marks o.edits e.memory f.memory s.shadow;

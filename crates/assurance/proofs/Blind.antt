@@ -33,10 +33,10 @@ use Rattle.virtqueue.specs.Ring.{Reader, placed_from, card_read, Walked, found, 
 use Rattle.interrupts.specs.Requests.{flags_of, count_of, kind_of, width, data_start, reads_data}
 use Rattle.interrupts.specs.declared.Line.{Line}
 use Rattle.interrupts.proofs.Requests.{Agrees, checks-agree, lines-agree}
-use Rattle.emulator.specs.Machine.{Machine, Emulator, Given, memoryAlone, stateAlone, both, usable, lendable, as_noted, with_lines}
+use Rattle.emulator.specs.Machine.{Machine, Emulator, Given, memory_alone, state_alone, both, usable, lendable, as_noted, with_lines}
 use Rattle.emulator.specs.Effect.{Effect, Outcome, effect_of, outcome_of, leaving, writing}
-use Rattle.emulator.specs.Requests.{Request, getApiVersion, checkExtension, setIommu, getIommuInfo, mapDma, unmapDma, getInfo, getRegionInfo, getIrqInfo, setIrqs, resetDevice, Entry, requests, entry_in, identify, in_fields, data_of, input_of, requested_type, requested_mapping, requested_start, requested_size, requested_index, argsz_checks, listed_checks, size_checks, request_checks, listed_effect, request_effect}
-use Rattle.emulator.specs.Calls.{Call, power_on, request, look_up, device_read, device_write, host_write, host_read, invalidate, set_register, read_register, show_line, walk_queue, loadParts, saveParts, stop, start, given, input, queue_value, walk_of, own_checks, checks, walking, effect, probes_of, outcome}
+use Rattle.emulator.specs.Requests.{Request, get_api_version, check_extension, set_iommu, get_iommu_info, map_dma, unmap_dma, get_info, get_region_info, get_irq_info, set_irqs, reset_device, Entry, requests, entry_in, identify, in_fields, data_of, input_of, requested_type, requested_mapping, requested_start, requested_size, requested_index, argsz_checks, listed_checks, size_checks, request_checks, listed_effect, request_effect}
+use Rattle.emulator.specs.Calls.{Call, power_on, request, look_up, device_read, device_write, host_write, host_read, invalidate, set_register, read_register, show_line, walk_queue, load_parts, save_parts, stop, start, given, input, queue_value, walk_of, own_checks, checks, walking, effect, probes_of, outcome}
 use Rattle.assurance.specs.Overwrite.{overwrite, mask}
 use Rattle.assurance.specs.Runs.{written}
 use Rattle.assurance.proofs.Entries.{every, entry-by}
@@ -60,25 +60,25 @@ outcome_eq u v e f k n p h = go u refl ∙ ap (λ (x : Verdict). outcome_of x f 
 
 usable-blind : (g : Given) (e : Emulator) → usable g (seen e) ≡ usable g e
 unfolding usable lendable as_noted seen
-usable-blind memoryAlone e = simp length-mask
-usable-blind stateAlone e = refl
+usable-blind memory_alone e = simp length-mask
+usable-blind state_alone e = refl
 usable-blind both e = simp length-mask
 
 -- ---- requests read their input fields alone
 
 -- the fields that a request looks at are kept
 unfoldable reads_kept : (ℕ → Bool) → Request → Bool
-reads_kept keep getApiVersion = true
-reads_kept keep checkExtension = keeps keep 0 4
-reads_kept keep setIommu = keeps keep 0 4
-reads_kept keep getIommuInfo = true
-reads_kept keep mapDma = keeps keep 4 4 and keeps keep 8 8 and keeps keep 16 8 and keeps keep 24 8
-reads_kept keep unmapDma = keeps keep 4 4 and keeps keep 8 8 and keeps keep 16 8
-reads_kept keep getInfo = true
-reads_kept keep getRegionInfo = keeps keep 8 4
-reads_kept keep getIrqInfo = keeps keep 8 4
-reads_kept keep setIrqs = keeps keep 0 20 and keeps keep 4 4 and keeps keep 16 4
-reads_kept keep resetDevice = true
+reads_kept keep get_api_version = true
+reads_kept keep check_extension = keeps keep 0 4
+reads_kept keep set_iommu = keeps keep 0 4
+reads_kept keep get_iommu_info = true
+reads_kept keep map_dma = keeps keep 4 4 and keeps keep 8 8 and keeps keep 16 8 and keeps keep 24 8
+reads_kept keep unmap_dma = keeps keep 4 4 and keeps keep 8 8 and keeps keep 16 8
+reads_kept keep get_info = true
+reads_kept keep get_region_info = keeps keep 8 4
+reads_kept keep get_irq_info = keeps keep 8 4
+reads_kept keep set_irqs = keeps keep 0 20 and keeps keep 4 4 and keeps keep 16 4
+reads_kept keep reset_device = true
 
 -- argsz and the fields of its request are input fields of an entry
 unfoldable entry_reads : List ℕ → Entry → Bool
@@ -89,7 +89,7 @@ unfolding every entry_reads reads_kept keeps input_of in_fields pick ◌and◌ �
 all_read buf = refl
 
 module _ (keep : ℕ → Bool) (buf : List ℕ) (e : Emulator) where
-  mapping-blind : reads_kept keep mapDma ≡ true → requested_mapping (mask keep buf) ≡ requested_mapping buf
+  mapping-blind : reads_kept keep map_dma ≡ true → requested_mapping (mask keep buf) ≡ requested_mapping buf
   unfolding reads_kept requested_mapping
   mapping-blind h =
       let a = and_true _ _ h in
@@ -98,7 +98,7 @@ module _ (keep : ℕ → Bool) (buf : List ℕ) (e : Emulator) where
       rw (field-kept keep buf 4 4 c.0, field-kept keep buf 8 8 c.1, field-kept keep buf 16 8 b.1, field-kept keep buf 24 8 a.1)
 
   -- a request to the lines: the bytes that it reads are kept
-  irqs_agree : reads_kept keep setIrqs ≡ true → ((i : ℕ) → reads_data buf i ≡ true → keep i ≡ true) → Agrees buf (mask keep buf)
+  irqs_agree : reads_kept keep set_irqs ≡ true → ((i : ℕ) → reads_data buf i ≡ true → keep i ≡ true) → Agrees buf (mask keep buf)
   unfolding reads_kept mask
   irqs_agree h covers = record {
     fields = λ i lt.
@@ -109,37 +109,37 @@ module _ (keep : ℕ → Bool) (buf : List ℕ) (e : Emulator) where
 
   listed_checks-blind : (q : Request) → reads_kept keep q ≡ true → ((i : ℕ) → data_of q buf i ≡ true → keep i ≡ true) → listed_checks q (mask keep buf) (seen e) ≡ listed_checks q buf e
   unfolding reads_kept listed_checks data_of requested_type requested_start requested_size requested_index seen
-  listed_checks-blind getApiVersion h covers = refl
-  listed_checks-blind checkExtension h covers = refl
-  listed_checks-blind setIommu h covers = rw (field-kept keep buf 0 4 h)
-  listed_checks-blind getIommuInfo h covers = refl
-  listed_checks-blind mapDma h covers = rw (length-mask (written e.memory) e.memory.bytes, mapping-blind h)
-  listed_checks-blind unmapDma h covers =
+  listed_checks-blind get_api_version h covers = refl
+  listed_checks-blind check_extension h covers = refl
+  listed_checks-blind set_iommu h covers = rw (field-kept keep buf 0 4 h)
+  listed_checks-blind get_iommu_info h covers = refl
+  listed_checks-blind map_dma h covers = rw (length-mask (written e.memory) e.memory.bytes, mapping-blind h)
+  listed_checks-blind unmap_dma h covers =
       let a = and_true _ _ h in
       let b = and_true _ _ a.0 in
       rw (field-kept keep buf 4 4 b.0, field-kept keep buf 8 8 b.1, field-kept keep buf 16 8 a.1)
-  listed_checks-blind getInfo h covers = refl
-  listed_checks-blind getRegionInfo h covers = rw (field-kept keep buf 8 4 h)
-  listed_checks-blind getIrqInfo h covers = rw (field-kept keep buf 8 4 h)
-  listed_checks-blind setIrqs h covers = sym (checks-agree buf (mask keep buf) (irqs_agree h covers))
-  listed_checks-blind resetDevice h covers = refl
+  listed_checks-blind get_info h covers = refl
+  listed_checks-blind get_region_info h covers = rw (field-kept keep buf 8 4 h)
+  listed_checks-blind get_irq_info h covers = rw (field-kept keep buf 8 4 h)
+  listed_checks-blind set_irqs h covers = sym (checks-agree buf (mask keep buf) (irqs_agree h covers))
+  listed_checks-blind reset_device h covers = refl
 
   listed_effect-blind : (q : Request) → reads_kept keep q ≡ true → ((i : ℕ) → data_of q buf i ≡ true → keep i ≡ true) → listed_effect q (mask keep buf) (seen e) ≡ listed_effect q buf e
   unfolding reads_kept listed_effect data_of requested_type requested_start requested_size requested_index seen
-  listed_effect-blind getApiVersion h covers = refl
-  listed_effect-blind checkExtension h covers = rw (field-kept keep buf 0 4 h)
-  listed_effect-blind setIommu h covers = rw (field-kept keep buf 0 4 h)
-  listed_effect-blind getIommuInfo h covers = refl
-  listed_effect-blind mapDma h covers = rw (mapping-blind h)
-  listed_effect-blind unmapDma h covers =
+  listed_effect-blind get_api_version h covers = refl
+  listed_effect-blind check_extension h covers = rw (field-kept keep buf 0 4 h)
+  listed_effect-blind set_iommu h covers = rw (field-kept keep buf 0 4 h)
+  listed_effect-blind get_iommu_info h covers = refl
+  listed_effect-blind map_dma h covers = rw (mapping-blind h)
+  listed_effect-blind unmap_dma h covers =
       let a = and_true _ _ h in
       let b = and_true _ _ a.0 in
       rw (field-kept keep buf 8 8 b.1, field-kept keep buf 16 8 a.1)
-  listed_effect-blind getInfo h covers = refl
-  listed_effect-blind getRegionInfo h covers = rw (field-kept keep buf 8 4 h)
-  listed_effect-blind getIrqInfo h covers = rw (field-kept keep buf 8 4 h)
-  listed_effect-blind setIrqs h covers = ap (λ (ls : List Line). leaving (with_lines ls e.machine)) (sym (lines-agree buf (mask keep buf) e.machine.lines (irqs_agree h covers)))
-  listed_effect-blind resetDevice h covers = refl
+  listed_effect-blind get_info h covers = refl
+  listed_effect-blind get_region_info h covers = rw (field-kept keep buf 8 4 h)
+  listed_effect-blind get_irq_info h covers = rw (field-kept keep buf 8 4 h)
+  listed_effect-blind set_irqs h covers = ap (λ (ls : List Line). leaving (with_lines ls e.machine)) (sym (lines-agree buf (mask keep buf) e.machine.lines (irqs_agree h covers)))
+  listed_effect-blind reset_device h covers = refl
 
   argsz-blind : (t : Bool) (size : ℕ) → pick t (keeps keep 0 4) true ≡ true → argsz_checks t size (mask keep buf) ≡ argsz_checks t size buf
   unfolding argsz_checks pick
@@ -179,7 +179,7 @@ request-blind buf e = entry-by (entry_reads buf) (RequestBlind buf e) absent lis
 
 -- ---- which bytes are input, the input bytes say
 
-irqs_stable : (keep : ℕ → Bool) (w : ℕ → ℕ) (buf : List ℕ) → reads_kept keep setIrqs ≡ true → data_of setIrqs (overwrite keep w buf) ≡ data_of setIrqs buf
+irqs_stable : (keep : ℕ → Bool) (w : ℕ → ℕ) (buf : List ℕ) → reads_kept keep set_irqs ≡ true → data_of set_irqs (overwrite keep w buf) ≡ data_of set_irqs buf
 unfolding reads_kept data_of reads_data
 irqs_stable keep w buf h =
     let p = and_true _ _ h in
@@ -189,17 +189,17 @@ irqs_stable keep w buf h =
 
 data_stable : (q : Request) (keep : ℕ → Bool) (w : ℕ → ℕ) (buf : List ℕ) → reads_kept keep q ≡ true → data_of q (overwrite keep w buf) ≡ data_of q buf
 unfolding data_of
-data_stable getApiVersion keep w buf h = refl
-data_stable checkExtension keep w buf h = refl
-data_stable setIommu keep w buf h = refl
-data_stable getIommuInfo keep w buf h = refl
-data_stable mapDma keep w buf h = refl
-data_stable unmapDma keep w buf h = refl
-data_stable getInfo keep w buf h = refl
-data_stable getRegionInfo keep w buf h = refl
-data_stable getIrqInfo keep w buf h = refl
-data_stable setIrqs keep w buf h = irqs_stable keep w buf h
-data_stable resetDevice keep w buf h = refl
+data_stable get_api_version keep w buf h = refl
+data_stable check_extension keep w buf h = refl
+data_stable set_iommu keep w buf h = refl
+data_stable get_iommu_info keep w buf h = refl
+data_stable map_dma keep w buf h = refl
+data_stable unmap_dma keep w buf h = refl
+data_stable get_info keep w buf h = refl
+data_stable get_region_info keep w buf h = refl
+data_stable get_irq_info keep w buf h = refl
+data_stable set_irqs keep w buf h = irqs_stable keep w buf h
+data_stable reset_device keep w buf h = refl
 
 entry_stable : (w : ℕ → ℕ) (buf : List ℕ) (r : Entry) → entry_reads buf r ≡ true → input_of (some r) (overwrite (input_of (some r) buf) w buf) ≡ input_of (some r) buf
 unfolding input_of entry_reads
@@ -224,8 +224,8 @@ input_stable (set_register kind selector) w buf = refl
 input_stable (read_register kind selector) w buf = refl
 input_stable (show_line index i) w buf = refl
 input_stable (walk_queue queue last) w buf = refl
-input_stable loadParts w buf = refl
-input_stable saveParts w buf = refl
+input_stable load_parts w buf = refl
+input_stable save_parts w buf = refl
 input_stable stop w buf = refl
 input_stable start w buf = refl
 
@@ -305,8 +305,8 @@ own_checks-blind (set_register kind selector) buf e = simp mask-all
 own_checks-blind (read_register kind selector) buf e = simp length-mask
 own_checks-blind (show_line index i) buf e = refl
 own_checks-blind (walk_queue queue last) buf e = rw (length-mask (input (walk_queue queue last) buf) buf, walk-blind e queue last (length buf))
-own_checks-blind loadParts buf e = simp mask-all
-own_checks-blind saveParts buf e = simp length-mask
+own_checks-blind load_parts buf e = simp mask-all
+own_checks-blind save_parts buf e = simp length-mask
 own_checks-blind stop buf e = refl
 own_checks-blind start buf e = refl
 
@@ -334,8 +334,8 @@ effect-blind (read_register kind selector) buf e ok = refl
 effect-blind (show_line index i) buf e ok = refl
 effect-blind (walk_queue queue last) buf e ok =
     rw (length-mask (input (walk_queue queue last) buf) buf) (ap (λ (a : Answer Walked). walking (result_or (found [] 0) a) e.machine) (walk-blind e queue last (length buf)))
-effect-blind loadParts buf e ok = simp mask-all
-effect-blind saveParts buf e ok = refl
+effect-blind load_parts buf e ok = simp mask-all
+effect-blind save_parts buf e ok = refl
 effect-blind stop buf e ok = refl
 effect-blind start buf e ok = refl
 

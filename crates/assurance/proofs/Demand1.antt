@@ -30,8 +30,8 @@ use Rattle.virtqueue.specs.declared.Descriptor.{Descriptor}
 use Rattle.interrupts.specs.Requests.{set_checks as irq_checks, field_checks, data_checks, show_checks}
 use Rattle.emulator.specs.Machine.{Emulator, emulator_of}
 use Rattle.emulator.specs.Effect.{effect_of, outcome_of, after, filled}
-use Rattle.emulator.specs.Requests.{Request, getApiVersion, checkExtension, setIommu, getIommuInfo, mapDma, unmapDma, getInfo, getRegionInfo, getIrqInfo, setIrqs, resetDevice, Entry, argsz_checks, listed_checks, size_checks, request_checks}
-use Rattle.emulator.specs.Calls.{Call, power_on, request, look_up, device_read, device_write, host_write, host_read, invalidate, set_register, read_register, show_line, walk_queue, loadParts, saveParts, stop, start, walk_of, own_checks, checks, effect, outcome}
+use Rattle.emulator.specs.Requests.{Request, get_api_version, check_extension, set_iommu, get_iommu_info, map_dma, unmap_dma, get_info, get_region_info, get_irq_info, set_irqs, reset_device, Entry, argsz_checks, listed_checks, size_checks, request_checks}
+use Rattle.emulator.specs.Calls.{Call, power_on, request, look_up, device_read, device_write, host_write, host_read, invalidate, set_register, read_register, show_line, walk_queue, load_parts, save_parts, stop, start, walk_of, own_checks, checks, effect, outcome}
 use Rattle.emulator.specs.Contract.{Meets, returned, left_records}
 use Rattle.emulator.specs.declared.State.{State}
 use Rattle.assurance.specs.Demand1.{Listed, step_verdict, Unchanged, Demand1}
@@ -47,17 +47,17 @@ argsz-listed true size buf = search listing
 
 listed_listed : (q : Request) (buf : List ℕ) (e : Emulator) → Listed (listed_checks q buf e)
 unfolding listed_checks set_iommu_checks map_checks unmap_checks irq_checks field_checks data_checks
-listed_listed getApiVersion buf e = search listing
-listed_listed checkExtension buf e = search listing
-listed_listed setIommu buf e = search listing
-listed_listed getIommuInfo buf e = search listing
-listed_listed mapDma buf e = search listing depth 10
-listed_listed unmapDma buf e = search listing depth 10
-listed_listed getInfo buf e = search listing
-listed_listed getRegionInfo buf e = search listing
-listed_listed getIrqInfo buf e = search listing
-listed_listed setIrqs buf e = search listing depth 12
-listed_listed resetDevice buf e = search listing
+listed_listed get_api_version buf e = search listing
+listed_listed check_extension buf e = search listing
+listed_listed set_iommu buf e = search listing
+listed_listed get_iommu_info buf e = search listing
+listed_listed map_dma buf e = search listing depth 10
+listed_listed unmap_dma buf e = search listing depth 10
+listed_listed get_info buf e = search listing
+listed_listed get_region_info buf e = search listing
+listed_listed get_irq_info buf e = search listing
+listed_listed set_irqs buf e = search listing depth 12
+listed_listed reset_device buf e = search listing
 
 request-listed : (o : Option Entry) (buf : List ℕ) (e : Emulator) → Listed (request_checks o buf e)
 unfolding size_checks request_checks
@@ -187,8 +187,8 @@ own_checks-listed (set_register kind selector) buf e = search (listing, value-li
 own_checks-listed (read_register kind selector) buf e = search listing depth 10
 own_checks-listed (show_line index i) buf e = search listing
 own_checks-listed (walk_queue queue last) buf e = walk-listed _ (card-listed e.machine.mappings e.memory) queue _ last _
-own_checks-listed loadParts buf e = load-listed _ _ buf
-own_checks-listed saveParts buf e = search listing
+own_checks-listed load_parts buf e = load-listed _ _ buf
+own_checks-listed save_parts buf e = search listing
 own_checks-listed stop buf e = search listing
 own_checks-listed start buf e = search listing
 

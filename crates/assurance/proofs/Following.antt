@@ -35,8 +35,8 @@ use Rattle.virtqueue.proofs.Laws.{never_done, walk-fits, walk-follows}
 use Rattle.registers.specs.declared.Card.{Card}
 use Rattle.emulator.specs.Machine.{Machine, Emulator, both, usable, lendable, sound, sound_mappings, powered_on, with_mappings, with_registers, with_running, with_iommu_type, with_lines}
 use Rattle.emulator.specs.Effect.{Result, value, Effect, Outcome, effect_of, outcome_of, after, filled}
-use Rattle.emulator.specs.Requests.{Request, getApiVersion, checkExtension, setIommu, getIommuInfo, mapDma, unmapDma, getInfo, getRegionInfo, getIrqInfo, setIrqs, resetDevice, Entry, identify, requested_mapping, requested_start, requested_size, listed_checks, size_checks, request_checks, listed_effect, request_effect}
-use Rattle.emulator.specs.Calls.{Call, power_on, request, look_up, device_read, device_write, host_write, host_read, invalidate, set_register, read_register, show_line, walk_queue, loadParts, saveParts, stop, start, given, input, walk_of, own_checks, checks, effect, probes_of, outcome}
+use Rattle.emulator.specs.Requests.{Request, get_api_version, check_extension, set_iommu, get_iommu_info, map_dma, unmap_dma, get_info, get_region_info, get_irq_info, set_irqs, reset_device, Entry, identify, requested_mapping, requested_start, requested_size, listed_checks, size_checks, request_checks, listed_effect, request_effect}
+use Rattle.emulator.specs.Calls.{Call, power_on, request, look_up, device_read, device_write, host_write, host_read, invalidate, set_register, read_register, show_line, walk_queue, load_parts, save_parts, stop, start, given, input, walk_of, own_checks, checks, effect, probes_of, outcome}
 use Rattle.assurance.specs.Overwrite.{mask}
 use Rattle.assurance.specs.Runs.{Ask, Others, Event, written, disturbed, lent_to, event, turn, run}
 use Rattle.assurance.specs.Ledger.{Bytes, Ledger, empty, ledger_after_request, ledger_after_listed, ledger_after, input_bytes, fed, held_at, FilledBy, or_refused, held_read, Owed, OwedIf, Follows}
@@ -80,11 +80,11 @@ usable-apart e h = sound-apart _ _ (and_true _ _ (and_true _ _ (and_true _ _ (an
 module _ (l : Ledger) (e : Emulator) (buf : List ℕ) (h : Books l e) where
   listed_books : (q : Request) → Apart e.machine.mappings → listed_checks q buf e ≡ Pass → Books (ledger_after_request q buf l) (after (listed_effect q buf e) e)
   unfolding ledger_after_request listed_effect listed_checks after edited with_mappings with_registers with_iommu_type with_lines Apart find map_checks
-  listed_books getApiVersion a ok = h
-  listed_books checkExtension a ok = h
-  listed_books setIommu a ok = record { kind = refl; bytes = h.bytes; maps = h.maps; apart = h.apart }
-  listed_books getIommuInfo a ok = h
-  listed_books mapDma a ok =
+  listed_books get_api_version a ok = h
+  listed_books check_extension a ok = h
+  listed_books set_iommu a ok = record { kind = refl; bytes = h.bytes; maps = h.maps; apart = h.apart }
+  listed_books get_iommu_info a ok = h
+  listed_books map_dma a ok =
       let m : Mapping = requested_mapping buf in
       let free = when_pass _ _ (then_pass _ _ (then_pass _ _ (then_pass _ _ (then_pass _ _ (then_pass _ _ ok).1).1).1).1).0 in
       record {
@@ -93,7 +93,7 @@ module _ (l : Ledger) (e : Emulator) (buf : List ℕ) (h : Books l e) where
         maps = λ d. find-insert m e.machine.mappings free d ∙ ap (λ (o : Option Mapping). pick (holds m d) (some m) o) (h.maps d);
         apart = ((λ d p. sym (h.maps d) ∙ free-find m e.machine.mappings free d p), h.apart);
       }
-  listed_books unmapDma a ok =
+  listed_books unmap_dma a ok =
       let test : Mapping → Bool = removed e.machine.iommu_type e.machine.mappings (requested_start buf) (requested_size buf) in
       let same : removed l.iommu_type l.mappings (requested_start buf) (requested_size buf) ≡ test =
       rw h.kind (sym (removed-same l.iommu_type e.machine.mappings l.mappings a h.apart h.maps (requested_start buf) (requested_size buf))) in
@@ -104,11 +104,11 @@ module _ (l : Ledger) (e : Emulator) (buf : List ℕ) (h : Books l e) where
         maps = λ d. find-without test e.machine.mappings a d ∙ ap (unless test) (h.maps d) ∙ sym (find-without test l.mappings h.apart d);
         apart = without-apart test l.mappings h.apart;
       }
-  listed_books getInfo a ok = h
-  listed_books getRegionInfo a ok = h
-  listed_books getIrqInfo a ok = h
-  listed_books setIrqs a ok = record { kind = h.kind; bytes = h.bytes; maps = h.maps; apart = h.apart }
-  listed_books resetDevice a ok = record { kind = h.kind; bytes = h.bytes; maps = h.maps; apart = h.apart }
+  listed_books get_info a ok = h
+  listed_books get_region_info a ok = h
+  listed_books get_irq_info a ok = h
+  listed_books set_irqs a ok = record { kind = h.kind; bytes = h.bytes; maps = h.maps; apart = h.apart }
+  listed_books reset_device a ok = record { kind = h.kind; bytes = h.bytes; maps = h.maps; apart = h.apart }
 
   request_books : (o : Option Entry) → Apart e.machine.mappings → request_checks o buf e ≡ Pass → Books (ledger_after_listed o buf l) (after (request_effect o buf e) e)
   unfolding ledger_after_listed request_effect size_checks request_checks
@@ -149,8 +149,8 @@ books_after (set_register kind selector) l e buf h good ok = record { kind = h.k
 books_after (read_register kind selector) l e buf h good ok = h
 books_after (show_line index i) l e buf h good ok = record { kind = h.kind; bytes = h.bytes; maps = h.maps; apart = h.apart }
 books_after (walk_queue queue last) l e buf h good ok = h
-books_after loadParts l e buf h good ok = record { kind = h.kind; bytes = h.bytes; maps = h.maps; apart = h.apart }
-books_after saveParts l e buf h good ok = h
+books_after load_parts l e buf h good ok = record { kind = h.kind; bytes = h.bytes; maps = h.maps; apart = h.apart }
+books_after save_parts l e buf h good ok = h
 books_after stop l e buf h good ok = record { kind = h.kind; bytes = h.bytes; maps = h.maps; apart = h.apart }
 books_after start l e buf h good ok = record { kind = h.kind; bytes = h.bytes; maps = h.maps; apart = h.apart }
 
@@ -233,8 +233,8 @@ owed (set_register kind selector) l e buf lent p h ok = tt
 owed (read_register kind selector) l e buf lent p h ok = tt
 owed (show_line index i) l e buf lent p h ok = tt
 owed (walk_queue queue last) l e buf lent p h ok = let r = passed-done _ ok in walk-owed queue last l e buf lent p h r.0 r.1
-owed loadParts l e buf lent p h ok = tt
-owed saveParts l e buf lent p h ok = tt
+owed load_parts l e buf lent p h ok = tt
+owed save_parts l e buf lent p h ok = tt
 owed stop l e buf lent p h ok = tt
 owed start l e buf lent p h ok = tt
 

@@ -33,8 +33,8 @@ use Rattle.memory.proofs.Transfers.{host_write-room, invalidate-room}
 use Rattle.dma.specs.Transfers.{write_fault, device_write_checks, location, scatter}
 use Rattle.emulator.specs.Machine.{Machine, Emulator, machine_of, emulator_of, both, usable, lendable, lendable_records, powered_on, as_noted, sound, sound_mappings}
 use Rattle.emulator.specs.Effect.{effect_of, outcome_of, after}
-use Rattle.emulator.specs.Requests.{Request, getApiVersion, checkExtension, setIommu, getIommuInfo, mapDma, unmapDma, getInfo, getRegionInfo, getIrqInfo, setIrqs, resetDevice, Entry, identify, request_effect, listed_effect}
-use Rattle.emulator.specs.Calls.{Call, power_on, request, look_up, device_read, device_write, host_write, host_read, invalidate, set_register, read_register, show_line, walk_queue, loadParts, saveParts, stop, start, given, own_checks, checks, effect, outcome}
+use Rattle.emulator.specs.Requests.{Request, get_api_version, check_extension, set_iommu, get_iommu_info, map_dma, unmap_dma, get_info, get_region_info, get_irq_info, set_irqs, reset_device, Entry, identify, request_effect, listed_effect}
+use Rattle.emulator.specs.Calls.{Call, power_on, request, look_up, device_read, device_write, host_write, host_read, invalidate, set_register, read_register, show_line, walk_queue, load_parts, save_parts, stop, start, given, own_checks, checks, effect, outcome}
 use Rattle.assurance.specs.Packed.{with_packed, PastEnd}
 use Rattle.assurance.proofs.Blind.{first, shift, transfer_passed}
 
@@ -115,17 +115,17 @@ usable-table e h =
 
 listed_below : (n : ℕ) (q : Request) (buf : List ℕ) (e : Emulator) → Below n (listed_effect q buf e).edits
 unfolding Below listed_effect
-listed_below n getApiVersion buf e = tt
-listed_below n checkExtension buf e = tt
-listed_below n setIommu buf e = tt
-listed_below n getIommuInfo buf e = tt
-listed_below n mapDma buf e = tt
-listed_below n unmapDma buf e = tt
-listed_below n getInfo buf e = tt
-listed_below n getRegionInfo buf e = tt
-listed_below n getIrqInfo buf e = tt
-listed_below n setIrqs buf e = tt
-listed_below n resetDevice buf e = tt
+listed_below n get_api_version buf e = tt
+listed_below n check_extension buf e = tt
+listed_below n set_iommu buf e = tt
+listed_below n get_iommu_info buf e = tt
+listed_below n map_dma buf e = tt
+listed_below n unmap_dma buf e = tt
+listed_below n get_info buf e = tt
+listed_below n get_region_info buf e = tt
+listed_below n get_irq_info buf e = tt
+listed_below n set_irqs buf e = tt
+listed_below n reset_device buf e = tt
 
 request-below : (n : ℕ) (o : Option Entry) (buf : List ℕ) (e : Emulator) → Below n (request_effect o buf e).edits
 unfolding Below request_effect
@@ -148,8 +148,8 @@ call_below (set_register kind selector) buf e good ok = tt
 call_below (read_register kind selector) buf e good ok = tt
 call_below (show_line index i) buf e good ok = tt
 call_below (walk_queue queue last) buf e good ok = tt
-call_below loadParts buf e good ok = tt
-call_below saveParts buf e good ok = tt
+call_below load_parts buf e good ok = tt
+call_below save_parts buf e good ok = tt
 call_below stop buf e good ok = tt
 call_below start buf e good ok = tt
 

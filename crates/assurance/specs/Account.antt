@@ -8,8 +8,8 @@ use Rattle.memory.specs.Memory.{Memory}
 use Rattle.registers.specs.declared.Card.{Card}
 use Rattle.emulator.specs.Machine.{Emulator}
 use Rattle.emulator.specs.Effect.{Result, value, after}
-use Rattle.emulator.specs.Requests.{Request, getApiVersion, checkExtension, setIommu, getIommuInfo, mapDma, unmapDma, getInfo, getRegionInfo, getIrqInfo, setIrqs, resetDevice, Entry, identify, requested_mapping, requested_size}
-use Rattle.emulator.specs.Calls.{Call, power_on, request, look_up, device_read, device_write, host_write, host_read, invalidate, set_register, read_register, show_line, walk_queue, loadParts, saveParts, stop, start, outcome}
+use Rattle.emulator.specs.Requests.{Request, get_api_version, check_extension, set_iommu, get_iommu_info, map_dma, unmap_dma, get_info, get_region_info, get_irq_info, set_irqs, reset_device, Entry, identify, requested_mapping, requested_size}
+use Rattle.emulator.specs.Calls.{Call, power_on, request, look_up, device_read, device_write, host_write, host_read, invalidate, set_register, read_register, show_line, walk_queue, load_parts, save_parts, stop, start, outcome}
 use Rattle.emulator.specs.declared.State.{State}
 use Rattle.assurance.specs.Runs.{Ask, Others, run}
 use Rattle.assurance.specs.Ledger.{input_bytes}
@@ -26,17 +26,17 @@ account mapped unmapped = record { mapped = mapped; unmapped = unmapped }
 -- what an accepted request enters, by its input bytes `buf` and the buffer `out` that it left: a map the size that it asks for, an unmap the size
 -- field that it leaves
 unfoldable pub entered_request : Request → List ℕ → List ℕ → Account → Account
-entered_request getApiVersion buf out a = a
-entered_request checkExtension buf out a = a
-entered_request setIommu buf out a = a
-entered_request getIommuInfo buf out a = a
-entered_request mapDma buf out a = account (a.mapped + (requested_mapping buf).size) a.unmapped
-entered_request unmapDma buf out a = account a.mapped (a.unmapped + requested_size out)
-entered_request getInfo buf out a = a
-entered_request getRegionInfo buf out a = a
-entered_request getIrqInfo buf out a = a
-entered_request setIrqs buf out a = a
-entered_request resetDevice buf out a = a
+entered_request get_api_version buf out a = a
+entered_request check_extension buf out a = a
+entered_request set_iommu buf out a = a
+entered_request get_iommu_info buf out a = a
+entered_request map_dma buf out a = account (a.mapped + (requested_mapping buf).size) a.unmapped
+entered_request unmap_dma buf out a = account a.mapped (a.unmapped + requested_size out)
+entered_request get_info buf out a = a
+entered_request get_region_info buf out a = a
+entered_request get_irq_info buf out a = a
+entered_request set_irqs buf out a = a
+entered_request reset_device buf out a = a
 
 unfoldable pub entered_listed : Option Entry → List ℕ → List ℕ → Account → Account
 entered_listed none buf out a = a
@@ -56,8 +56,8 @@ entered_call (set_register kind selector) buf out a = a
 entered_call (read_register kind selector) buf out a = a
 entered_call (show_line index i) buf out a = a
 entered_call (walk_queue queue last) buf out a = a
-entered_call loadParts buf out a = a
-entered_call saveParts buf out a = a
+entered_call load_parts buf out a = a
+entered_call save_parts buf out a = a
 entered_call stop buf out a = a
 entered_call start buf out a = a
 

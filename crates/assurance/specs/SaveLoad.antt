@@ -6,7 +6,7 @@ use Rattle.memory.specs.Memory.{Memory}
 use Rattle.registers.specs.File.{kept_count, file_of, slots_of}
 use Rattle.emulator.specs.Machine.{Emulator, machine_of, sound, with_registers}
 use Rattle.emulator.specs.Effect.{Result, value, leaving, filled}
-use Rattle.emulator.specs.Calls.{loadParts, saveParts, outcome}
+use Rattle.emulator.specs.Calls.{load_parts, save_parts, outcome}
 use Rattle.emulator.specs.Contract.{with_registers_in, Meets}
 use Rattle.emulator.specs.declared.State.{State}
 
@@ -16,11 +16,11 @@ use Rattle.emulator.specs.declared.State.{State}
 pub record SaveLoad : Type 0 where
   -- as the two calls are defined, from the emulator `e` into the emulator `f`
   pub outcomes : (e f : Emulator) (buf : List ℕ) (n : ℕ) → length e.machine.registers ≡ kept_count
-      → (outcome saveParts buf e).answer ≡ done (value n) → sound f.room f.machine ≡ true → f.machine.running ≡ false → e.machine.words ≡ f.machine.words
-      → outcome loadParts (take n (filled (outcome saveParts buf e).effect.pieces buf)) f
+      → (outcome save_parts buf e).answer ≡ done (value n) → sound f.room f.machine ≡ true → f.machine.running ≡ false → e.machine.words ≡ f.machine.words
+      → outcome load_parts (take n (filled (outcome save_parts buf e).effect.pieces buf)) f
       ≡ record { answer = done (value 0); probes = 0; effect = leaving (with_registers e.machine.registers f.machine) }
   -- as the code does it, from the state `s` into the state `t`: it answers 0, and returns `t` with the saved registers, as code writes them
   pub code : (s s' t t' : State) (rs rs' us us' : List Mapping) (m m' k k' : Memory) (buf saved stream : List ℕ) (n : ℕ) (r : Answer Result) → length s.registers.slots ≡ kept_count
-      → Meets saveParts buf s rs m (done (value n)) saved m' s' rs' → sound (length us) (machine_of t us) ≡ true → (machine_of t us).running ≡ false → s.words ≡ t.words
-      → Meets loadParts (take n saved) t us k r stream k' t' us'
+      → Meets save_parts buf s rs m (done (value n)) saved m' s' rs' → sound (length us) (machine_of t us) ≡ true → (machine_of t us).running ≡ false → s.words ≡ t.words
+      → Meets load_parts (take n saved) t us k r stream k' t' us'
       → (r ≡ done (value 0)) × (t' ≡ with_registers_in (record { slots = slots_of (file_of s.words s.registers) }) t)

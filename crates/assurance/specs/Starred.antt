@@ -13,7 +13,7 @@ use Rattle.interrupts.specs.Lines.{off}
 use Rattle.emulator.specs.Machine.{Emulator, powered_on}
 use Rattle.emulator.specs.Effect.{Result, value, location, line, walked, Outcome, after, filled}
 use Rattle.emulator.specs.Requests.{container, device}
-use Rattle.emulator.specs.Calls.{Call, power_on, request, look_up, show_line, walk_queue, device_read, host_write, set_register, loadParts, saveParts, stop, outcome}
+use Rattle.emulator.specs.Calls.{Call, power_on, request, look_up, show_line, walk_queue, device_read, host_write, set_register, load_parts, save_parts, stop, outcome}
 use Rattle.assurance.specs.Runs.{Ask}
 
 -- an emulator that is lent so many records
@@ -175,13 +175,13 @@ cases =
       leaves = region_seven;
     }
     -- rule 7.2: a reset device saved
-    ∷ record { card = Features64; before = []; ask = saveParts lent stale 43; answer = gives 41; probes = 0; leaves = offered_part ++ status_part ++ stale 2 }
+    ∷ record { card = Features64; before = []; ask = save_parts lent stale 43; answer = gives 41; probes = 0; leaves = offered_part ++ status_part ++ stale 2 }
     -- rule 7.3: no parts
-    ∷ answers [] (loadParts lent []) (refused Missing 0)
+    ∷ answers [] (load_parts lent []) (refused Missing 0)
     -- rule 7.4: status alone
-    ∷ answers [] (loadParts lent status_part) (gives 0)
+    ∷ answers [] (load_parts lent status_part) (gives 0)
     -- rule 7.5: status twice
-    ∷ answers [] (loadParts lent status_part ++ status_part) (refused Twice 17)
+    ∷ answers [] (load_parts lent status_part ++ status_part) (refused Twice 17)
     -- rule 7.6: the last page
     ∷ answers [] (map_at (device_limit - page) 4096) (gives 0)
     -- rule 7.7: past the last page
@@ -197,10 +197,10 @@ cases =
     -- rule 7.12: the second of two bytes is not written
     ∷ answers (map_at 0 4096 ∷ (host_write (memory_address 0) lent 0x5A ∷ []) ∷ []) (device_read (device_address 0) lent stale 2) (refused Unwritten 1)
     -- rule 7.19: a reset device of the second card saved
-    ∷ record { card = Features128; before = []; ask = saveParts lent stale 51; answer = gives 49; probes = 0; leaves = offered_part128 ++ status_part ++ stale 2 }
+    ∷ record { card = Features128; before = []; ask = save_parts lent stale 51; answer = gives 49; probes = 0; leaves = offered_part128 ++ status_part ++ stale 2 }
     -- rule 7.20: the other card's offered features
-    ∷ answers [] (loadParts lent status_part ++ offered_part128) (refused Value 17)
-    ∷ answers_on Features128 [] (loadParts lent status_part ++ offered_part) (refused Value 17)
+    ∷ answers [] (load_parts lent status_part ++ offered_part128) (refused Value 17)
+    ∷ answers_on Features128 [] (load_parts lent status_part ++ offered_part) (refused Value 17)
     -- rule 7.21: bit 0 of the second word
     ∷ answers_on Features128 [] (set_register DriverFeatures 0 lent bytes_of 8 0 ++ bytes_of 8 1) (gives 0)
     -- rule 7.22: bit 1 of it

@@ -25,7 +25,7 @@ use Rattle.parts.specs.declared.Step.TheVariants.{Part, End, Refused as Stopped}
 use Rattle.parts.proofs.Steps.{step_says}
 use Rattle.emulator.specs.Machine.{machine_of, emulator_of, sound}
 use Rattle.emulator.specs.Effect.{Result, value}
-use Rattle.emulator.specs.Calls.{Call, look_up, loadParts, load_on, outcome}
+use Rattle.emulator.specs.Calls.{Call, look_up, load_parts, load_on, outcome}
 use Rattle.emulator.specs.Contract.{Meets, Locates, told, told_location, told_probes, with_registers_in}
 use Rattle.emulator.specs.declared.Location.{Location}
 use Rattle.emulator.specs.declared.State.{State}
@@ -67,12 +67,12 @@ load_as s rs stream e f g = rw (e, f, g)
 -- with registers that are kept where loading came to a success
 module _ (s : State) (rs : List Mapping) (m : Memory) (stream : List ℕ) (l : Loaded) (is : l ≡ loaded_of (load_on (sound (length rs) (machine_of s rs)) s.words (flagged s.running) stream)) where
   pub as_loaded : (x : Told) → told_number x ≡ settle l.verdict 0 → (o : Outcome) → o ≡ answer_struct (told x)
-      → Tells loadParts stream s rs m o stream m (kept_by (record { outcome = o; registers = l.registers }) s) rs
+      → Tells load_parts stream s rs m o stream m (kept_by (record { outcome = o; registers = l.registers }) s) rs
   unfolding settle verdict result_or
   as_loaded x e o f = go x l.verdict refl e f
     where
       go : (x : Told) (v : Verdict) → l.verdict ≡ v → told_number x ≡ settle v 0 → o ≡ answer_struct (told x)
-          → Tells loadParts stream s rs m o stream m (cond o.refused s (with_registers_in l.registers s)) rs
+          → Tells load_parts stream s rs m o stream m (cond o.refused s (with_registers_in l.registers s)) rs
       go (Done n) Pass v e f =
           as_kept (f ∙ ap (λ (k : ℕ). answer_struct (done (value k))) (ap (result_or 0) e), ap (λ (z : Outcome). cond z.refused s (with_registers_in l.registers s)) f)
           (load-done s rs m stream l is v)

@@ -40,8 +40,8 @@ use Rattle.interrupts.specs.Lines.{disabled_lines}
 use Rattle.interrupts.specs.declared.Lines.{Lines}
 use Rattle.emulator.specs.Machine.{machine_of, emulator_of, both, sound, lendable, lendable_records, usable, powered_on}
 use Rattle.emulator.specs.Effect.{Result, value}
-use Rattle.emulator.specs.Requests.{Request, resetDevice, size_checks}
-use Rattle.emulator.specs.Calls.{power_on, request, device_read, device_write, set_register, loadParts, given}
+use Rattle.emulator.specs.Requests.{Request, reset_device, size_checks}
+use Rattle.emulator.specs.Calls.{power_on, request, device_read, device_write, set_register, load_parts, given}
 use Rattle.emulator.specs.Contract.{everything, state_with, with_registers_in, with_running_in, with_lines_in, run_call, told, MeetsAlone}
 use Rattle.emulator.specs.declared.State.{State}
 use Rattle.emulator.specs.declared.Changed.{Changed}
@@ -123,7 +123,7 @@ pub sets : (kind selector : ℕ) (v : List ℕ) (s : State) (rs : List Mapping) 
     → (r : Registers) → r ≡ c.registers → (o : Outcome) → o ≡ answer_struct (told c.answer) → TellsAlone (set_register kind selector) v s rs o v (with_registers_in r s) rs
 sets kind selector v s rs c h r e o f = λ m. as_kept (f, ap (λ (x : Registers). with_registers_in x s) e) (h m)
 
-module _ (stream : List ℕ) (s : State) (rs : List Mapping) (l : LoadReply) (h : TellsAlone loadParts stream s rs l.outcome stream (kept_by l s) rs) {go : Bool} (is : go ≡ not l.outcome.refused)
+module _ (stream : List ℕ) (s : State) (rs : List Mapping) (l : LoadReply) (h : TellsAlone load_parts stream s rs l.outcome stream (kept_by l s) rs) {go : Bool} (is : go ≡ not l.outcome.refused)
     (o : Outcome) (same : o ≡ l.outcome) where
   not-refused : go ≡ true → l.outcome.refused ≡ false
   not-refused e = flip l.outcome.refused (sym is ∙ e)
@@ -139,12 +139,12 @@ module _ (stream : List ℕ) (s : State) (rs : List Mapping) (l : LoadReply) (h 
       flip true e = refl
       flip false e = sym e
 
-  pub loads : go ≡ true → (r : Registers) → r ≡ l.registers → TellsAlone loadParts stream s rs o stream (with_registers_in r s) rs
+  pub loads : go ≡ true → (r : Registers) → r ≡ l.registers → TellsAlone load_parts stream s rs o stream (with_registers_in r s) rs
   loads e r f = λ m.
       let kept : kept_by l s ≡ with_registers_in l.registers s = ap (λ (b : Bool). cond b s (with_registers_in l.registers s)) (not-refused e) in
       rw (same, f, ← kept) (h m)
 
-  pub loads-not : go ≡ false → TellsAlone loadParts stream s rs o stream s rs
+  pub loads-not : go ≡ false → TellsAlone load_parts stream s rs o stream s rs
   loads-not e = λ m.
       let kept : kept_by l s ≡ s = ap (λ (b : Bool). cond b s (with_registers_in l.registers s)) (is-refused e) in
       rw same (rw kept at (h m))
@@ -311,7 +311,7 @@ module _ (a : Admission) (buf : List ℕ) (s : State) (rs : List Mapping) where
     resets-all h r e ls f =
         let at = admitted-at reset_index resets h in
         let x = (replied.answered.plain at.0).reset at.1 in
-        rw x.1 (handles reset_index resets h resetDevice refl (done (value 0)) buf (with_lines_in ls (with_registers_in r s)) rs (reset-done buf s rs r e ls f) o (replied.struct ∙ ap (λ (y : Answer Result). answer_struct y) x.0))
+        rw x.1 (handles reset_index resets h reset_device refl (done (value 0)) buf (with_lines_in ls (with_registers_in r s)) rs (reset-done buf s rs r e ls f) o (replied.struct ∙ ap (λ (y : Answer Result). answer_struct y) x.0))
 
     -- every other that changes nothing: refused by checks 1 to 4, or answered by its buffer alone
     pub answers : wipe ≡ false → IsNot set_iommu_index a → IsNot map_index a → IsNot unmap_index a → IsNot set_irqs_index a → Handled a buf s rs o buf' s rs

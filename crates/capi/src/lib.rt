@@ -24,7 +24,7 @@ ghost use Rattle.device_file.specs.Scan.{header_of};
 ghost use Rattle.emulator.specs.Machine.{machine_of, emulator_of, both as state_and_memory, sound as sound_machine, lendable as can_lend, usable as can_use};
 ghost use Rattle.emulator.specs.Effect.{value};
 ghost use Rattle.emulator.specs.Requests.{size_checks};
-ghost use Rattle.emulator.specs.Calls.{power_on, request, device_read, device_write, host_write, host_read, invalidate, set_register, read_register, loadParts, saveParts, stop, start};
+ghost use Rattle.emulator.specs.Calls.{power_on, request, device_read, device_write, host_write, host_read, invalidate, set_register, read_register, load_parts, save_parts, stop, start};
 ghost use Rattle.emulator.specs.Contract.{told, told_location, told_probes, told_line, told_walk};
 ghost use Rattle.emulator.specs.declared.State.{State as StateRecord};
 ghost use Rattle.vfio.specs.Entries.{entry_at};
@@ -755,7 +755,7 @@ struct LoadReply {
 
 fn load_parts(ok: bool, words: u8, running: u8, stream: &[u8]) -> LoadReply
     requires { ok ≡ true → is_card words ≡ true }
-    ensures { (s : StateRecord) (rs : List MappingRecord) → ok ≡ sound_machine (length_of rs) (machine_of s rs) → words ≡ s.words → running ≡ s.running → TellsAlone loadParts stream.now s rs result.outcome stream.now (kept_by result s) rs }
+    ensures { (s : StateRecord) (rs : List MappingRecord) → ok ≡ sound_machine (length_of rs) (machine_of s rs) → words ≡ s.words → running ≡ s.running → TellsAlone load_parts stream.now s rs result.outcome stream.now (kept_by result s) rs }
 {
     let loaded = emulator::load_registers(ok, words, running, stream);
     let verdict = loaded.verdict;
@@ -785,7 +785,7 @@ fn outcome_of(l: LoadReply) -> Outcome
 // Loads a stream of parts.
 #[unsafe(no_mangle)]
 pub extern "C" fn glint_load_parts(state: &mut State, records: &[Mapping], stream: &[u8]) -> Outcome
-    ensures { TellsAlone loadParts stream.now state.old records.now result stream.now state.new records.now }
+    ensures { TellsAlone load_parts stream.now state.old records.now result stream.now state.new records.now }
 {
     let ok = emulator::sound(state, records);
     let words = state.words;
@@ -799,7 +799,7 @@ pub extern "C" fn glint_load_parts(state: &mut State, records: &[Mapping], strea
 
 fn save_parts(ok: bool, words: u8, running: u8, registers: Registers, buf: &mut [u8]) -> Outcome
     requires { ok ≡ true → is_card words ≡ true }
-    ensures { (s : StateRecord) (rs : List MappingRecord) → ok ≡ sound_machine (length_of rs) (machine_of s rs) → words ≡ s.words → running ≡ s.running → registers ≡ s.registers → TellsAlone saveParts buf.old s rs result buf.new s rs }
+    ensures { (s : StateRecord) (rs : List MappingRecord) → ok ≡ sound_machine (length_of rs) (machine_of s rs) → words ≡ s.words → running ≡ s.running → registers ≡ s.registers → TellsAlone save_parts buf.old s rs result buf.new s rs }
 {
     numbers(emulator::save_parts(ok, words, running, registers, buf))
 }
@@ -807,7 +807,7 @@ fn save_parts(ok: bool, words: u8, running: u8, registers: Registers, buf: &mut 
 // Saves the registers as a stream of parts.
 #[unsafe(no_mangle)]
 pub extern "C" fn glint_save_parts(state: &State, records: &[Mapping], buf: &mut [u8]) -> Outcome
-    ensures { TellsAlone saveParts buf.old state.now records.now result buf.new state.now records.now }
+    ensures { TellsAlone save_parts buf.old state.now records.now result buf.new state.now records.now }
 {
     let ok = emulator::sound(state, records);
     let words = state.words;

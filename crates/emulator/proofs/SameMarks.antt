@@ -23,9 +23,9 @@ use Rattle.memory.specs.Transfers.{unwritten_at, unwritten_in, host_write_checks
 use Rattle.memory.specs.Memory.{byte_at, bytes_from}
 use Rattle.dma.specs.Transfers.{read_fault, transfer_checks, device_read_checks, gather}
 use Rattle.virtqueue.specs.Ring.{Reader, card_read, walk}
-use Rattle.emulator.specs.Machine.{Emulator, Given, memoryAlone, stateAlone, both, lendable, as_noted, usable}
-use Rattle.emulator.specs.Requests.{Request, Entry, getApiVersion, checkExtension, setIommu, getIommuInfo, mapDma, unmapDma, getInfo, getRegionInfo, getIrqInfo, setIrqs, resetDevice, identify, request_checks, listed_checks, request_effect, listed_effect}
-use Rattle.emulator.specs.Calls.{Call, power_on, request, look_up, device_read, device_write, host_write, host_read, invalidate, set_register, read_register, show_line, walk_queue, loadParts, saveParts, stop, start, given, queue_value, walk_of, own_checks, checks, effect, outcome}
+use Rattle.emulator.specs.Machine.{Emulator, Given, memory_alone, state_alone, both, lendable, as_noted, usable}
+use Rattle.emulator.specs.Requests.{Request, Entry, get_api_version, check_extension, set_iommu, get_iommu_info, map_dma, unmap_dma, get_info, get_region_info, get_irq_info, set_irqs, reset_device, identify, request_checks, listed_checks, request_effect, listed_effect}
+use Rattle.emulator.specs.Calls.{Call, power_on, request, look_up, device_read, device_write, host_write, host_read, invalidate, set_register, read_register, show_line, walk_queue, load_parts, save_parts, stop, start, given, queue_value, walk_of, own_checks, checks, effect, outcome}
 
 -- the same emulator with another shadow
 unfoldable pub shadowed_by : Shadow → Emulator → Emulator
@@ -37,8 +37,8 @@ module _ (t : Shadow) (e : Emulator)
   where
     usable_same : (g : Given) → usable g (shadowed_by t e) ≡ usable g e
     unfolding usable shadowed_by as_noted
-    usable_same memoryAlone = rw lent
-    usable_same stateAlone = refl
+    usable_same memory_alone = rw lent
+    usable_same state_alone = refl
     usable_same both = rw lent
 
     -- ---- what looks at marks
@@ -81,17 +81,17 @@ module _ (t : Shadow) (e : Emulator)
 
     listed-checks : (r : Request) (buf : List ℕ) → listed_checks r buf (shadowed_by t e) ≡ listed_checks r buf e
     unfolding listed_checks shadowed_by
-    listed-checks getApiVersion buf = refl
-    listed-checks checkExtension buf = refl
-    listed-checks setIommu buf = refl
-    listed-checks getIommuInfo buf = refl
-    listed-checks mapDma buf = refl
-    listed-checks unmapDma buf = refl
-    listed-checks getInfo buf = refl
-    listed-checks getRegionInfo buf = refl
-    listed-checks getIrqInfo buf = refl
-    listed-checks setIrqs buf = refl
-    listed-checks resetDevice buf = refl
+    listed-checks get_api_version buf = refl
+    listed-checks check_extension buf = refl
+    listed-checks set_iommu buf = refl
+    listed-checks get_iommu_info buf = refl
+    listed-checks map_dma buf = refl
+    listed-checks unmap_dma buf = refl
+    listed-checks get_info buf = refl
+    listed-checks get_region_info buf = refl
+    listed-checks get_irq_info buf = refl
+    listed-checks set_irqs buf = refl
+    listed-checks reset_device buf = refl
 
     request-checks : (r : Option Entry) (buf : List ℕ) → request_checks r buf (shadowed_by t e) ≡ request_checks r buf e
     unfolding request_checks
@@ -100,17 +100,17 @@ module _ (t : Shadow) (e : Emulator)
 
     listed-effect : (r : Request) (buf : List ℕ) → listed_effect r buf (shadowed_by t e) ≡ listed_effect r buf e
     unfolding listed_effect shadowed_by
-    listed-effect getApiVersion buf = refl
-    listed-effect checkExtension buf = refl
-    listed-effect setIommu buf = refl
-    listed-effect getIommuInfo buf = refl
-    listed-effect mapDma buf = refl
-    listed-effect unmapDma buf = refl
-    listed-effect getInfo buf = refl
-    listed-effect getRegionInfo buf = refl
-    listed-effect getIrqInfo buf = refl
-    listed-effect setIrqs buf = refl
-    listed-effect resetDevice buf = refl
+    listed-effect get_api_version buf = refl
+    listed-effect check_extension buf = refl
+    listed-effect set_iommu buf = refl
+    listed-effect get_iommu_info buf = refl
+    listed-effect map_dma buf = refl
+    listed-effect unmap_dma buf = refl
+    listed-effect get_info buf = refl
+    listed-effect get_region_info buf = refl
+    listed-effect get_irq_info buf = refl
+    listed-effect set_irqs buf = refl
+    listed-effect reset_device buf = refl
 
     request-effect : (r : Option Entry) (buf : List ℕ) → request_effect r buf (shadowed_by t e) ≡ request_effect r buf e
     unfolding request_effect shadowed_by
@@ -133,8 +133,8 @@ module _ (t : Shadow) (e : Emulator)
     own_checks-same (read_register kind selector) buf = refl
     own_checks-same (show_line index i) buf = refl
     own_checks-same (walk_queue queue last) buf = simp walk_same
-    own_checks-same loadParts buf = refl
-    own_checks-same saveParts buf = refl
+    own_checks-same load_parts buf = refl
+    own_checks-same save_parts buf = refl
     own_checks-same stop buf = refl
     own_checks-same start buf = refl
 
@@ -152,8 +152,8 @@ module _ (t : Shadow) (e : Emulator)
     effect-same (read_register kind selector) buf = refl
     effect-same (show_line index i) buf = refl
     effect-same (walk_queue queue last) buf = simp walk_same
-    effect-same loadParts buf = refl
-    effect-same saveParts buf = refl
+    effect-same load_parts buf = refl
+    effect-same save_parts buf = refl
     effect-same stop buf = refl
     effect-same start buf = refl
 

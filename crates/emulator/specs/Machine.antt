@@ -99,12 +99,12 @@ as_noted e = eqb (length e.memory.bytes) e.machine.memory_length
 
 -- rule 2.7: what a call is given beside the records: memory with its marks, the kept state, or both
 pub data Given : Type 0 where
-  memoryAlone stateAlone both : Given
+  memory_alone state_alone both : Given
 
 -- rule 2.6: whether 1 passes, on what a call is given
 unfoldable pub usable : Given → Emulator → Bool
-usable memoryAlone e = lendable e.memory and lendable_records e.room
-usable stateAlone e = sound e.room e.machine
+usable memory_alone e = lendable e.memory and lendable_records e.room
+usable state_alone e = sound e.room e.machine
 usable both e = lendable e.memory and as_noted e and sound e.room e.machine
 
 -- ---- states that calls leave

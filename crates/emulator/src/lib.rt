@@ -18,7 +18,7 @@ ghost use Rattle.interrupts.specs.Lines.{sound_lines};
 ghost use Rattle.virtqueue.specs.Ring.{queue_of};
 ghost use Rattle.virtqueue.specs.Progress.{begun};
 ghost use Rattle.emulator.specs.Machine.{machine_of, emulator_of, both as state_and_memory, sound as sound_machine, lendable as can_lend, lendable_records, usable as can_use, powered_on};
-ghost use Rattle.emulator.specs.Calls.{host_write, host_read, set_register, read_register, show_line, saveParts, load_on, queue_value};
+ghost use Rattle.emulator.specs.Calls.{host_write, host_read, set_register, read_register, show_line, save_parts, load_on, queue_value};
 ghost use Rattle.emulator.specs.Calls as calls;
 ghost use Rattle.emulator.specs.Contract.{Meets, MeetsAlone, Locates, lent_memory, left_memory, remarked_memory, told, told_line, with_registers_in, state_with, everything, queue_register, opening_checks};
 ghost use Rattle.emulator.specs.declared.State.{State as StateRecord};
@@ -461,7 +461,7 @@ pub fn load_registers(ok: bool, words: u8, running: u8, stream: &[u8]) -> Loaded
 #[tactic(auto, unfolding(crate::specs::Calls::given, crate::specs::Machine::usable, crate::specs::Machine::emulator_of))]
 pub fn save_parts(ok: bool, words: u8, running: u8, registers: Registers, buf: &mut [u8]) -> Answer
     requires { ok ≡ true → is_card words ≡ true }
-    ensures { (s : StateRecord) (rs : List MappingRecord) → ok ≡ sound_machine (length rs) (machine_of s rs) → words ≡ s.words → running ≡ s.running → registers ≡ s.registers → MeetsAlone saveParts buf.old s rs (told result) buf.new s rs }
+    ensures { (s : StateRecord) (rs : List MappingRecord) → ok ≡ sound_machine (length rs) (machine_of s rs) → words ≡ s.words → running ≡ s.running → registers ≡ s.registers → MeetsAlone save_parts buf.old s rs (told result) buf.new s rs }
 {
     if !ok {
         return Answer::Refused(answer::BAD_BENCH, 0);

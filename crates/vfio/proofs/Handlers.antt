@@ -26,7 +26,7 @@ use Rattle.registers.specs.declared.Register.{Register}
 use Rattle.registers.specs.declared.Registers.{Registers}
 use Rattle.emulator.specs.Machine.{Emulator, machine_of, emulator_of, with_mappings, with_registers, with_iommu_type, with_lines}
 use Rattle.emulator.specs.Effect.{Result, value, Piece, output, reporting, writing, effect_of, outcome_of, filled}
-use Rattle.emulator.specs.Requests.{Request, getApiVersion, checkExtension, setIommu, mapDma, unmapDma, getRegionInfo, getIrqInfo, setIrqs, resetDevice, Region, region, regions, region_at, requested_mapping, requested_start, requested_size, requested_index, requested_type, listed_checks, listed_effect}
+use Rattle.emulator.specs.Requests.{Request, get_api_version, check_extension, set_iommu, map_dma, unmap_dma, get_region_info, get_irq_info, set_irqs, reset_device, Region, region, regions, region_at, requested_mapping, requested_start, requested_size, requested_index, requested_type, listed_checks, listed_effect}
 use Rattle.emulator.specs.Contract.{nothing, request_writes, with_count_in, with_registers_in, with_iommu_type_in, with_lines_in, state_with, records_with, returned, left_records}
 use Rattle.emulator.specs.declared.State.{State}
 use Rattle.vfio.specs.Entries.{request_count, entry_of}
@@ -78,17 +78,17 @@ put_last b b₁ p e = e
 -- ---- requests that look at the buffer alone
 
 module _ (buf : List ℕ) where
-  pub api_version_lem : Answers getApiVersion buf (done (value 0)) buf
+  pub api_version_lem : Answers get_api_version buf (done (value 0)) buf
   unfolding listed_checks listed_effect request_writes filled
-  api_version_lem = reports getApiVersion buf buf 0 [] (λ e. refl) (λ e. refl) refl refl
+  api_version_lem = reports get_api_version buf buf 0 [] (λ e. refl) (λ e. refl) refl refl
 
-  pub extension_held : is_iommu_type (requested_type buf) ≡ true → Answers checkExtension buf (done (value 1)) buf
+  pub extension_held : is_iommu_type (requested_type buf) ≡ true → Answers check_extension buf (done (value 1)) buf
   unfolding listed_checks listed_effect request_writes filled pick
-  extension_held h = reports checkExtension buf buf 1 [] (λ e. refl) (λ e. rw h) refl refl
+  extension_held h = reports check_extension buf buf 1 [] (λ e. refl) (λ e. rw h) refl refl
 
-  pub extension_not : is_iommu_type (requested_type buf) ≡ false → Answers checkExtension buf (done (value 0)) buf
+  pub extension_not : is_iommu_type (requested_type buf) ≡ false → Answers check_extension buf (done (value 0)) buf
   unfolding listed_checks listed_effect request_writes filled pick
-  extension_not h = reports checkExtension buf buf 0 [] (λ e. refl) (λ e. rw h) refl refl
+  extension_not h = reports check_extension buf buf 0 [] (λ e. refl) (λ e. rw h) refl refl
 
 -- the index of 108 and 109, read as `i`, is judged against the `n` that there are; then the fields `ps` of that index are written
 module _ (q : Request) (buf : List ℕ) (n : ℕ) (judged : (e : Emulator) → listed_checks q buf e ≡ (Index unless ltb (field buf 8 4) n)) (i : ℕ) (is : i ≡ field buf 8 4) where
@@ -113,16 +113,16 @@ abbrev pub interrupt_fields : ℕ → List Piece
 interrupt_fields i = output 4 4 (index_at i).flags ∷ output 12 4 (index_at i).count ∷ []
 
 module _ (buf buf' : List ℕ) (i : ℕ) (is : i ≡ field buf 8 4) where
-  pub region_info : i < length regions → buf' ≡ filled (region_fields i) buf → Answers getRegionInfo buf (done (value 0)) buf'
+  pub region_info : i < length regions → buf' ≡ filled (region_fields i) buf → Answers get_region_info buf (done (value 0)) buf'
   unfolding listed_checks listed_effect request_writes requested_index region_at
   region_info =
-      index-done getRegionInfo buf (length regions) (λ e. refl) i is buf' region_fields
+      index-done get_region_info buf (length regions) (λ e. refl) i is buf' region_fields
       (λ e. rw (get_or-map (λ (r : Region). r.flags) regions (field buf 8 4) (region 0 0), get_or-map (λ (r : Region). r.size) regions (field buf 8 4) (region 0 0)))
       refl
 
-  pub irq_info : i < length indices → buf' ≡ filled (interrupt_fields i) buf → Answers getIrqInfo buf (done (value 0)) buf'
+  pub irq_info : i < length indices → buf' ≡ filled (interrupt_fields i) buf → Answers get_irq_info buf (done (value 0)) buf'
   unfolding listed_checks listed_effect request_writes requested_index
-  irq_info = index-done getIrqInfo buf (length indices) (λ e. refl) i is buf' interrupt_fields (λ e. refl) refl
+  irq_info = index-done get_irq_info buf (length indices) (λ e. refl) i is buf' interrupt_fields (λ e. refl) refl
 
 -- ---- requests that change the table, its IOMMU type, or lines
 
@@ -147,76 +147,76 @@ lines-kept lines buf e = record { checks = sym e; kept = refl }
 
 module _ (buf : List ℕ) (s : State) (rs : List Mapping) where
   module _ (mapping : Mapping) (is : mapping ≡ requested_mapping buf) (v : Verdict) (judged : v ≡ map_checks s.memory_length (length rs) (in_use (table_of rs s.count)) mapping) where
-    map-verdict : (m : Memory) → length m.bytes ≡ s.memory_length → listed_checks mapDma buf (emulator_of s rs m) ≡ v
+    map-verdict : (m : Memory) → length m.bytes ≡ s.memory_length → listed_checks map_dma buf (emulator_of s rs m) ≡ v
     unfolding listed_checks emulator_of machine_of
     map-verdict m noted = rw (noted, ← is) (sym judged)
 
-    pub map-refused : (code place : ℕ) → v ≡ Fail code place → Replies mapDma buf s rs (refused code place) buf s rs
-    map-refused code place e = λ m noted. handled-refused mapDma buf s rs m code place (map-verdict m noted ∙ e)
+    pub map-refused : (code place : ℕ) → v ≡ Fail code place → Replies map_dma buf s rs (refused code place) buf s rs
+    map-refused code place e = λ m noted. handled-refused map_dma buf s rs m code place (map-verdict m noted ∙ e)
 
     pub map-done : (n : ℕ) (rs' : List Mapping) → v ≡ Pass → n ≡ length (insert mapping (in_use (table_of rs s.count))) → rs' ≡ holding (insert mapping (in_use (table_of rs s.count))) rs
-        → Replies mapDma buf s rs (done (value 0)) buf (with_count_in n s) rs'
+        → Replies map_dma buf s rs (done (value 0)) buf (with_count_in n s) rs'
     unfolding listed_effect emulator_of machine_of with_mappings request_writes state_with records_with filled
     map-done n rs' e f g = λ m noted.
-        handled-done mapDma buf s rs m buf _ rs' (map-verdict m noted ∙ e) refl (rw (← is) (ap (λ (k : ℕ). with_count_in k s) f)) (rw (← is) g)
+        handled-done map_dma buf s rs m buf _ rs' (map-verdict m noted ∙ e) refl (rw (← is) (ap (λ (k : ℕ). with_count_in k s) f)) (rw (← is) g)
 
   -- the type that was asked for is kept where the checks pass
-  pub set_iommu : (c : IommuChange) → SetsIommu s.count s.iommu_type buf c → (k : ℕ) → k ≡ c.kind → Replies setIommu buf s rs (settle c.verdict (value 0)) buf (with_iommu_type_in k s) rs
+  pub set_iommu_lem : (c : IommuChange) → SetsIommu s.count s.iommu_type buf c → (k : ℕ) → k ≡ c.kind → Replies set_iommu buf s rs (settle c.verdict (value 0)) buf (with_iommu_type_in k s) rs
   unfolding settle listed_checks listed_effect emulator_of machine_of with_iommu_type request_writes state_with records_with filled
-  set_iommu c sets k is = λ m noted. by m c.verdict refl
+  set_iommu_lem c sets k is = λ m noted. by m c.verdict refl
     where
       kept : (v : Verdict) → c.verdict ≡ v → k ≡ pick (passes v) (requested_type buf) s.iommu_type
       kept v e = is ∙ sets.kept ∙ rw e
 
-      by : (m : Memory) (v : Verdict) → c.verdict ≡ v → Handles setIommu buf s rs m (settle v (value 0)) buf (with_iommu_type_in k s) rs
+      by : (m : Memory) (v : Verdict) → c.verdict ≡ v → Handles set_iommu buf s rs m (settle v (value 0)) buf (with_iommu_type_in k s) rs
       by m Pass e =
           let now : k ≡ requested_type buf = unfold pick passes in kept Pass e in
-          handled-done setIommu buf s rs m buf (with_iommu_type_in k s) rs (sym sets.checks ∙ e) refl (ap (λ (x : ℕ). with_iommu_type_in x s) now) refl
+          handled-done set_iommu buf s rs m buf (with_iommu_type_in k s) rs (sym sets.checks ∙ e) refl (ap (λ (x : ℕ). with_iommu_type_in x s) now) refl
       by m (Fail code place) e =
           let now : k ≡ s.iommu_type = unfold pick passes in kept (Fail code place) e in
-          rw now (handled-refused setIommu buf s rs m code place (sym sets.checks ∙ e))
+          rw now (handled-refused set_iommu buf s rs m code place (sym sets.checks ∙ e))
 
   -- the flags, the start and the size that were read
   module _ (flags : ℕ) (d : DeviceAddress) (n : ℕ) (flags-is : flags ≡ field buf 4 4) (start_is : d ≡ requested_start buf) (size_is : n ≡ requested_size buf)
       (v : Verdict) (judged : v ≡ unmap_checks s.iommu_type (in_use (table_of rs s.count)) flags d n) where
-    unmap-verdict : (m : Memory) → listed_checks unmapDma buf (emulator_of s rs m) ≡ v
+    unmap-verdict : (m : Memory) → listed_checks unmap_dma buf (emulator_of s rs m) ≡ v
     unfolding listed_checks emulator_of machine_of
     unmap-verdict m = rw (← flags-is, ← start_is, ← size_is) (sym judged)
 
-    pub unmap-refused : (code place : ℕ) → v ≡ Fail code place → Replies unmapDma buf s rs (refused code place) buf s rs
-    unmap-refused code place e = λ m noted. handled-refused unmapDma buf s rs m code place (unmap-verdict m ∙ e)
+    pub unmap-refused : (code place : ℕ) → v ≡ Fail code place → Replies unmap_dma buf s rs (refused code place) buf s rs
+    unmap-refused code place e = λ m noted. handled-refused unmap_dma buf s rs m code place (unmap-verdict m ∙ e)
 
     pub unmap-done : (buf' : List ℕ) (k : ℕ) (rs' : List Mapping) (sum : ℕ) → v ≡ Pass → k ≡ length (without (removed s.iommu_type (in_use (table_of rs s.count)) d n) (in_use (table_of rs s.count)))
         → rs' ≡ holding (without (removed s.iommu_type (in_use (table_of rs s.count)) d n) (in_use (table_of rs s.count))) rs → sum ≡ total_size (removed s.iommu_type (in_use (table_of rs s.count)) d n) (in_use (table_of rs s.count)) → buf' ≡ filled (output 16 8 sum ∷ []) buf
-        → Replies unmapDma buf s rs (done (value 0)) buf' (with_count_in k s) rs'
+        → Replies unmap_dma buf s rs (done (value 0)) buf' (with_count_in k s) rs'
     unfolding listed_effect emulator_of machine_of with_mappings request_writes state_with records_with
     unmap-done buf' k rs' sum e f g h b = λ m noted.
-        handled-done unmapDma buf s rs m buf' _ rs' (unmap-verdict m ∙ e)
+        handled-done unmap_dma buf s rs m buf' _ rs' (unmap-verdict m ∙ e)
         (b ∙ rw (← start_is, ← size_is) (ap (λ (x : ℕ). filled (output 16 8 x ∷ []) buf) h))
         (rw (← start_is, ← size_is) (ap (λ (x : ℕ). with_count_in x s) f))
         (rw (← start_is, ← size_is) g)
 
   -- the lines that the request leaves are kept where its checks pass
-  pub set_irqs : (c : IrqChange) → SetsIrqs s.lines.lines buf c → (k : Lines) → k ≡ c.lines → Replies setIrqs buf s rs (settle c.verdict (value 0)) buf (with_lines_in k s) rs
+  pub set_irqs_lem : (c : IrqChange) → SetsIrqs s.lines.lines buf c → (k : Lines) → k ≡ c.lines → Replies set_irqs buf s rs (settle c.verdict (value 0)) buf (with_lines_in k s) rs
   unfolding settle listed_checks listed_effect emulator_of machine_of with_lines request_writes state_with records_with filled
-  set_irqs c sets k is = λ m noted. by m c.verdict refl
+  set_irqs_lem c sets k is = λ m noted. by m c.verdict refl
     where
       kept : (v : Verdict) → c.verdict ≡ v → k.lines ≡ pick (passes v) (changed_lines buf s.lines.lines) s.lines.lines
       kept v e = ap (λ (x : Lines). x.lines) is ∙ sets.kept ∙ rw e
 
-      by : (m : Memory) (v : Verdict) → c.verdict ≡ v → Handles setIrqs buf s rs m (settle v (value 0)) buf (with_lines_in k s) rs
+      by : (m : Memory) (v : Verdict) → c.verdict ≡ v → Handles set_irqs buf s rs m (settle v (value 0)) buf (with_lines_in k s) rs
       by m Pass e =
           let now : k.lines ≡ changed_lines buf s.lines.lines = unfold pick passes in kept Pass e in
-          handled-done setIrqs buf s rs m buf (with_lines_in k s) rs (sym sets.checks ∙ e) refl (ap (λ (x : List Line). with_lines_in (record { lines = x }) s) now) refl
+          handled-done set_irqs buf s rs m buf (with_lines_in k s) rs (sym sets.checks ∙ e) refl (ap (λ (x : List Line). with_lines_in (record { lines = x }) s) now) refl
       by m (Fail code place) e =
           let now : k.lines ≡ s.lines.lines = unfold pick passes in kept (Fail code place) e in
           let same : with_lines_in k s ≡ s = ap (λ (x : List Line). with_lines_in (record { lines = x }) s) now in
-          subst (λ (x : State). Handles setIrqs buf s rs m (refused code place) buf x rs) (sym same) (handled-refused setIrqs buf s rs m code place (sym sets.checks ∙ e))
+          subst (λ (x : State). Handles set_irqs buf s rs m (refused code place) buf x rs) (sym same) (handled-refused set_irqs buf s rs m code place (sym sets.checks ∙ e))
 
-  pub reset-done : (r : Registers) → r.slots ≡ slots_of reset → (ls : Lines) → ls.lines ≡ disabled_lines → Replies resetDevice buf s rs (done (value 0)) buf (with_lines_in ls (with_registers_in r s)) rs
+  pub reset-done : (r : Registers) → r.slots ≡ slots_of reset → (ls : Lines) → ls.lines ≡ disabled_lines → Replies reset_device buf s rs (done (value 0)) buf (with_lines_in ls (with_registers_in r s)) rs
   unfolding listed_checks listed_effect emulator_of machine_of with_lines with_registers request_writes state_with records_with filled
   reset-done r e ls f = λ m noted.
-      handled-done resetDevice buf s rs m buf _ rs refl refl (ap₂ (λ (l : List Register) (k : List Line). with_lines_in (record { lines = k }) (with_registers_in (record { slots = l }) s)) e f) refl
+      handled-done reset_device buf s rs m buf _ rs refl refl (ap₂ (λ (l : List Register) (k : List Line). with_lines_in (record { lines = k }) (with_registers_in (record { slots = l }) s)) e f) refl
 
 -- ---- the handler of the entry at an index
 

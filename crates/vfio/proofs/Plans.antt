@@ -25,7 +25,7 @@ use Rattle.iommu.proofs.Changes.{length-insert, map-passed}
 use Rattle.iommu.proofs.Order.{past_bound, insert-placed}
 use Rattle.emulator.specs.Machine.{machine_of, sound}
 use Rattle.emulator.specs.Effect.{value, output, filled}
-use Rattle.emulator.specs.Requests.{mapDma, unmapDma, requested_mapping, requested_start, requested_size}
+use Rattle.emulator.specs.Requests.{map_dma, unmap_dma, requested_mapping, requested_start, requested_size}
 use Rattle.emulator.specs.Contract.{with_count_in}
 use Rattle.emulator.specs.declared.State.{State}
 use Rattle.emulator.proofs.Soundness.{sound-records}
@@ -98,7 +98,7 @@ module _ (s : State) (rs : List Mapping) (good : sound (length rs) (machine_of s
           (omega (arith, is, maps.few, long), omega (arith, long, (map-passed _ _ _ _ (sym maps.checks ∙ passed)).fits))
 
       pub map_replies : (at : ℕ) → at ≡ r.at → (rs' : List Mapping) → rs' ≡ holding (inserted_at at m (in_use (table_of rs s.count))) rs → (n : ℕ) → n ≡ s.count + 1
-          → Replies mapDma buf s rs (settle r.verdict (value 0)) buf (with_count_in n s) rs'
+          → Replies map_dma buf s rs (settle r.verdict (value 0)) buf (with_count_in n s) rs'
       unfolding settle
       map_replies at is rs' left n more =
           let long = in_use-length (table_of rs s.count) held.fits in
@@ -106,10 +106,10 @@ module _ (s : State) (rs : List Mapping) (good : sound (length rs) (machine_of s
           rw passed (map-done buf s rs m asked r.verdict maps.checks n rs' passed
           (omega (arith, more, long, length-insert m (in_use (table_of rs s.count)))) (left ∙ ap (λ (l : List Mapping). holding l rs) (sym placed)))
 
-    pub map-stays : go ≡ false → Replies mapDma buf s rs (settle r.verdict (value 0)) buf s rs
+    pub map-stays : go ≡ false → Replies map_dma buf s rs (settle r.verdict (value 0)) buf s rs
     map-stays stays = by r.verdict refl
       where
-        by : (v : Verdict) → r.verdict ≡ v → Replies mapDma buf s rs (settle v (value 0)) buf s rs
+        by : (v : Verdict) → r.verdict ≡ v → Replies map_dma buf s rs (settle v (value 0)) buf s rs
         by Pass e = absurd (passes-not r.verdict (sym goes ∙ stays) e)
         by (Fail code place) e = unfold settle in map-refused buf s rs m asked r.verdict maps.checks code place e
 
@@ -139,7 +139,7 @@ module _ (s : State) (rs : List Mapping) (good : sound (length rs) (machine_of s
       pub unmap_replies : (from to : ℕ) → from ≡ u.from → to ≡ u.to → (sum : ℕ) → sum ≡ sizes_between from to (in_use (table_of rs s.count))
           → (from' to' : ℕ) → from' ≡ u.from → to' ≡ u.to → (rs' : List Mapping) → rs' ≡ holding (without_run from' to' (in_use (table_of rs s.count))) rs
           → (buf' : List ℕ) → buf' ≡ filled (output 16 8 sum ∷ []) buf → (n : ℕ) → n ≡ s.count - (u.to - u.from)
-          → Replies unmapDma buf s rs (settle u.verdict (value 0)) buf' (with_count_in n s) rs'
+          → Replies unmap_dma buf s rs (settle u.verdict (value 0)) buf' (with_count_in n s) rs'
       unfolding settle without_run
       unmap_replies from to f t sum summed from' to' f' t' rs' left buf' put n fewer =
           let list : List Mapping = in_use (table_of rs s.count) in
@@ -152,10 +152,10 @@ module _ (s : State) (rs : List Mapping) (good : sound (length rs) (machine_of s
           rw removing (unmap-done buf s rs range.flags range.start range.size asked.0 asked.1 asked.2 u.verdict unmaps.checks buf' n rs' sum removing
           (fewer ∙ sym count) (rw (f', t') at left ∙ ap (λ (l : List Mapping). holding l rs) (sym rest)) (rw (f, t) at summed ∙ sym r.size) put)
 
-    pub unmap-stays : go ≡ false → Replies unmapDma buf s rs (settle u.verdict (value 0)) buf s rs
+    pub unmap-stays : go ≡ false → Replies unmap_dma buf s rs (settle u.verdict (value 0)) buf s rs
     unmap-stays stays = by u.verdict refl
       where
-        by : (v : Verdict) → u.verdict ≡ v → Replies unmapDma buf s rs (settle v (value 0)) buf s rs
+        by : (v : Verdict) → u.verdict ≡ v → Replies unmap_dma buf s rs (settle v (value 0)) buf s rs
         by Pass e = absurd (passes-not u.verdict (sym goes ∙ stays) e)
         by (Fail code place) e =
             unfold settle in (unmap-refused buf s rs range.flags range.start range.size asked.0 asked.1 asked.2 u.verdict unmaps.checks code place e)

@@ -14,7 +14,7 @@ use Rattle.iommu.specs.declared.Mapping.{Mapping}
 use Rattle.memory.specs.Memory.{Memory, edited}
 use Rattle.emulator.specs.Machine.{Emulator, both, usable, emulator_of}
 use Rattle.emulator.specs.Effect.{Result, effect_of, outcome_of}
-use Rattle.emulator.specs.Requests.{Request, getApiVersion, checkExtension, setIommu, getIommuInfo, mapDma, unmapDma, getInfo, getRegionInfo, getIrqInfo, setIrqs, resetDevice, Entry, identify, listed_checks, request_checks, listed_effect, request_effect, size_checks}
+use Rattle.emulator.specs.Requests.{Request, get_api_version, check_extension, set_iommu, get_iommu_info, map_dma, unmap_dma, get_info, get_region_info, get_irq_info, set_irqs, reset_device, Entry, identify, listed_checks, request_checks, listed_effect, request_effect, size_checks}
 use Rattle.emulator.specs.Calls.{request, given, own_checks, checks, effect, probes_of, outcome}
 use Rattle.emulator.specs.Contract.{entry_writes, request_writes, writes, Meets}
 use Rattle.emulator.specs.declared.State.{State}
@@ -39,17 +39,17 @@ size-passes r buf e h = then_next _ _ h
 
 no_edits : (q : Request) (buf : List ℕ) (e : Emulator) → (listed_effect q buf e).edits ≡ []
 unfolding listed_effect
-no_edits getApiVersion buf e = refl
-no_edits checkExtension buf e = refl
-no_edits setIommu buf e = refl
-no_edits getIommuInfo buf e = refl
-no_edits mapDma buf e = refl
-no_edits unmapDma buf e = refl
-no_edits getInfo buf e = refl
-no_edits getRegionInfo buf e = refl
-no_edits getIrqInfo buf e = refl
-no_edits setIrqs buf e = refl
-no_edits resetDevice buf e = refl
+no_edits get_api_version buf e = refl
+no_edits check_extension buf e = refl
+no_edits set_iommu buf e = refl
+no_edits get_iommu_info buf e = refl
+no_edits map_dma buf e = refl
+no_edits unmap_dma buf e = refl
+no_edits get_info buf e = refl
+no_edits get_region_info buf e = refl
+no_edits get_irq_info buf e = refl
+no_edits set_irqs buf e = refl
+no_edits reset_device buf e = refl
 
 keeps-memory : (v : Verdict) (q : Request) (buf : List ℕ) (e : Emulator) (m : Memory) → m ≡ edited (effect_of v (listed_effect q buf e) e.machine).edits m
 unfolding effect_of edited

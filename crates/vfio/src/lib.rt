@@ -13,7 +13,7 @@ ghost use Rattle.iommu.specs.Requests.{map_checks, end_of, Ends, Unmaps};
 ghost use Rattle.iommu.specs.declared.Mapping.{Mapping as MappingRecord};
 ghost use Rattle.emulator.specs.Machine.{machine_of, sound as sound_machine};
 ghost use Rattle.emulator.specs.Effect.{value, output, filled};
-ghost use Rattle.emulator.specs.Requests.{checkExtension, getIommuInfo, mapDma, unmapDma, getInfo, getRegionInfo, getIrqInfo, requested_mapping, requested_start, requested_size, argsz_checks, identify as identified, size_checks};
+ghost use Rattle.emulator.specs.Requests.{check_extension, get_iommu_info, map_dma, unmap_dma, get_info, get_region_info, get_irq_info, requested_mapping, requested_start, requested_size, argsz_checks, identify as identified, size_checks};
 ghost use Rattle.emulator.specs.Contract.{told};
 ghost use Rattle.vfio.specs.Entries.{request_count, entry_at};
 ghost use Rattle.vfio.specs.Handlers.{Answers, Replies, Admits, set_iommu_index, set_irqs_index, map_index, unmap_index, reset_index, Plain, Answered, SetsIommu, SetsIrqs, Maps};
@@ -163,7 +163,7 @@ const PAGE_SIZES: u64 = 4096;
 
 fn check_extension(buf: &[u8]) -> Answer
     requires { 4 ≤ length buf.now }
-    ensures { Answers checkExtension buf.now (told result) buf.now }
+    ensures { Answers check_extension buf.now (told result) buf.now }
 {
     if iommu::is_iommu_type(wire::get_u32(buf, 0)) {
         return Answer::Done(1);
@@ -195,7 +195,7 @@ pub fn kept_type(c: IommuChange) -> u32
 
 fn get_iommu_info(buf: &mut [u8]) -> Answer
     requires { 16 ≤ length buf.old }
-    ensures { Answers getIommuInfo buf.old (told result) buf.new }
+    ensures { Answers get_iommu_info buf.old (told result) buf.new }
 {
     wire::put_u32(buf, 4, PAGE_SIZES_GIVEN);
     wire::put_u64(buf, 8, PAGE_SIZES);
@@ -286,7 +286,7 @@ fn one_more(count: usize) -> usize
 // A map: its checks decide, and its answer is theirs.
 pub fn map_dma(state: &mut State, records: &mut [Mapping], buf: &[u8]) -> Map
     requires { (sound_machine (length records.old) (machine_of state.old records.old) ≡ true) × (32 ≤ length buf.now) }
-    ensures { Replies mapDma buf.now state.old records.old (settle result.verdict (value 0)) buf.now state.new records.new }
+    ensures { Replies map_dma buf.now state.old records.old (settle result.verdict (value 0)) buf.now state.new records.new }
 {
     let mapping = requested_mapping(buf);
     let size = state.memory_length;
@@ -389,7 +389,7 @@ fn put_size(buf: &mut [u8], size: u64)
 // An unmap, likewise.
 pub fn unmap_dma(state: &mut State, records: &mut [Mapping], buf: &mut [u8]) -> Unmap
     requires { (sound_machine (length records.old) (machine_of state.old records.old) ≡ true) × (24 ≤ length buf.old) }
-    ensures { Replies unmapDma buf.old state.old records.old (settle result.verdict (value 0)) buf.new state.new records.new }
+    ensures { Replies unmap_dma buf.old state.old records.old (settle result.verdict (value 0)) buf.new state.new records.new }
 {
     let range = requested_range(buf);
     let count = state.count;
@@ -422,7 +422,7 @@ const REGION_STRIDE: u64 = 0x10000000000;
 
 fn get_info(buf: &mut [u8]) -> Answer
     requires { 16 ≤ length buf.old }
-    ensures { Answers getInfo buf.old (told result) buf.new }
+    ensures { Answers get_info buf.old (told result) buf.new }
 {
     wire::put_u32(buf, 4, DEVICE_FLAGS);
     wire::put_u32(buf, 8, REGIONS);
@@ -433,7 +433,7 @@ fn get_info(buf: &mut [u8]) -> Answer
 // Flags, reserved bytes, size and offset are written, and nothing before the index is judged.
 fn get_region_info(buf: &mut [u8]) -> Answer
     requires { 32 ≤ length buf.old }
-    ensures { Answers getRegionInfo buf.old (told result) buf.new }
+    ensures { Answers get_region_info buf.old (told result) buf.new }
 {
     let index = wire::get_u32(buf, 8);
     if REGIONS <= index {
@@ -449,7 +449,7 @@ fn get_region_info(buf: &mut [u8]) -> Answer
 
 fn get_irq_info(buf: &mut [u8]) -> Answer
     requires { 16 ≤ length buf.old }
-    ensures { Answers getIrqInfo buf.old (told result) buf.new }
+    ensures { Answers get_irq_info buf.old (told result) buf.new }
 {
     let index = wire::get_u32(buf, 8);
     if INTERRUPTS <= index {

@@ -2,7 +2,7 @@
 use Rattle.std.proofs.Common.{refl}
 use Rattle.answer.specs.Answer.{settle}
 use Rattle.emulator.specs.Effect.{value}
-use Rattle.emulator.specs.Requests.{unmapDma}
+use Rattle.emulator.specs.Requests.{unmap_dma}
 use Rattle.vfio.specs.Handlers.{unmap_index}
 use Rattle.capi.proofs.Calls.{is-not, table-asks, handles}
 use Rattle.capi.proofs.unmap_or_answer.Goals as goal
@@ -12,7 +12,7 @@ unmap_dma-requires c = table-asks c.args.a c.args.buf.now c.args.state.now c.arg
 
 pub returns-then-unmaps : goal.returns-then-unmaps
 returns-then-unmaps c = λ map.
-    handles c.args.a c.args.buf.now c.args.state.now c.args.records.now unmap_index c.unmaps.ensures c.if-unmaps.true unmapDma refl (settle c.unmap_dma.result.verdict (value 0))
+    handles c.args.a c.args.buf.now c.args.state.now c.args.records.now unmap_index c.unmaps.ensures c.if-unmaps.true unmap_dma refl (settle c.unmap_dma.result.verdict (value 0))
     c.unmap_dma.new.buf c.unmap_dma.new.state c.unmap_dma.new.records c.unmap_dma.ensures c.unmapped.result c.unmapped.ensures
 
 pub returns : goal.returns

@@ -1,12 +1,12 @@
 -- The index is judged, then each field is written.
 use Rattle.std.proofs.Common.{refl}
-use Rattle.emulator.specs.Requests.{getRegionInfo, listed_checks, requested_index}
+use Rattle.emulator.specs.Requests.{get_region_info, listed_checks, requested_index}
 use Rattle.vfio.proofs.Handlers.{index-refused, region_info, put_first, put_last}
 use Rattle.vfio.proofs.get_region_info.Goals as goal
 
 pub returns-then-index-ge-REGIONS : goal.returns-then-index-ge-REGIONS
 unfolding listed_checks requested_index
-returns-then-index-ge-REGIONS c = index-refused getRegionInfo _ _ (λ e. refl) _ c.get_u32-index.ensures c.if-index-ge-REGIONS.true
+returns-then-index-ge-REGIONS c = index-refused get_region_info _ _ (λ e. refl) _ c.get_u32-index.ensures c.if-index-ge-REGIONS.true
 
 pub returns : goal.returns
 returns c =
