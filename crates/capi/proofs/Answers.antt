@@ -1,11 +1,11 @@
 -- A promise of the emulator, kept under the struct that C gets.
-use Prim.Native.Nat.{ℕ, ◌+◌, ◌-◌, ◌≤◌}
+use Prim.Native.Nat.{ℕ}
 use native.Mathlib.Omega.{arith}
 use mathlib.Core.Path.{◌≡◌, refl, sym, ◌∙◌, ap}
 use mathlib.Core.Bool.{Bool, true, false, cond}
 use mathlib.Core.List.{List, []}
 use lib.ListN.{length}
-use Rattle.answer.specs.Answer.{Answer, done, refused, settle, verdict, result_or, told_number}
+use Rattle.answer.specs.Answer.{Answer, done, settle, verdict, result_or, told_number}
 use Rattle.answer.specs.declared.Answer.{Answer as Told}
 use Rattle.answer.specs.declared.Answer.TheVariants.{Done, Refused}
 use Rattle.answer.specs.declared.Verdict.{Verdict}
@@ -17,7 +17,6 @@ use Rattle.answer.specs.Tests.{flagged}
 use Rattle.address.specs.declared.DeviceAddress.{DeviceAddress}
 use Rattle.iommu.specs.declared.Mapping.{Mapping}
 use Rattle.memory.specs.Memory.{Memory}
-use Rattle.registers.specs.declared.Registers.{Registers}
 use Rattle.parts.specs.Step.{step_at, value_to, step_value, value_at}
 use Rattle.parts.specs.Load.{loaded_of}
 use Rattle.parts.specs.declared.Loaded.{Loaded}

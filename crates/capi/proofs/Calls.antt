@@ -1,12 +1,12 @@
 -- What the exported calls ask of the functions that they call, and have to answer and leave, by what those found.
-use Prim.Native.Nat.{ℕ, zero, suc, ◌*◌, ◌≤◌}
+use Prim.Native.Nat.{ℕ, ◌*◌, ◌≤◌}
 use native.Mathlib.Omega.{arith}
 use mathlib.Core.Path.{◌≡◌, refl, sym, ◌∙◌, ap}
-use mathlib.Core.Bool.{Bool, true, false, not, cond, false≢true, true≢false}
-use mathlib.Core.List.{List, [], ◌∷◌}
+use mathlib.Core.Bool.{Bool, true, false, not, cond, true≢false}
+use mathlib.Core.List.{List, []}
 use lib.ListN.{length, get_or}
-use lib.Dec.{ltb, eqb}
-use borrow.Author.Tests.{eqb-true, eq-eqb, ltb-true, ltb-false, le-leb}
+use lib.Dec.{eqb}
+use borrow.Author.Tests.{eqb-true, eq-eqb}
 use Rattle.wire.specs.Field.{field}
 use Rattle.answer.specs.Tests.{◌and◌, pick, flag_byte}
 use Rattle.answer.specs.Codes.{BadBench}
@@ -16,15 +16,14 @@ use Rattle.answer.specs.declared.Verdict.{Verdict}
 use Rattle.answer.specs.declared.Verdict.TheVariants.{Pass, Fail}
 use Rattle.answer.proofs.Tests.{and_true, and_made, pick_true, pick_false}
 use Rattle.answer.proofs.Checks.{never, passes_pass, passes-is}
-use Rattle.address.specs.Address.{device_address, memory_address, memory_limit, in_device_range, in_memory_range}
+use Rattle.address.specs.Address.{device_address, memory_address, memory_limit}
 use Rattle.address.specs.declared.DeviceAddress.{DeviceAddress}
-use Rattle.iommu.specs.Table.{capacity, blank, holds, in_range, shown_by, translate, sound_table, sound_mappings_from, table_of, in_use, first_past, Sound, Placed}
+use Rattle.iommu.specs.Table.{blank, holds, in_range, shown_by, translate, sound_table, sound_mappings_from, table_of, in_use, first_past, Sound, Placed}
 use Rattle.iommu.specs.Halving.{search_of, searched, probes_for}
 use Rattle.iommu.specs.declared.Mapping.{Mapping}
 use Rattle.iommu.specs.declared.Search.{Search}
-use Rattle.iommu.specs.declared.Unmap.{Unmap}
 use Rattle.iommu.proofs.Halving.{probes-counted}
-use Rattle.iommu.proofs.Order.{past_bound, translate-placed}
+use Rattle.iommu.proofs.Order.{translate-placed}
 use Rattle.iommu.proofs.Passes.{in_use-length}
 use Rattle.iommu.proofs.Requests.{shown-asks}
 use Rattle.memory.specs.Shadow.{packed, mark_bytes}
@@ -42,8 +41,8 @@ use Rattle.interrupts.specs.declared.Lines.{Lines}
 use Rattle.emulator.specs.Machine.{machine_of, emulator_of, both, sound, lendable, lendable_records, usable, powered_on}
 use Rattle.emulator.specs.Effect.{Result, value}
 use Rattle.emulator.specs.Requests.{Request, reset_device, size_checks}
-use Rattle.emulator.specs.Calls.{power_on, request, device_read, device_write, set_register, load_parts, stop, start, given}
-use Rattle.emulator.specs.Contract.{everything, state_with, with_registers_in, with_running_in, with_lines_in, run_call, told, Meets, MeetsAlone}
+use Rattle.emulator.specs.Calls.{power_on, request, device_read, device_write, set_register, load_parts, given}
+use Rattle.emulator.specs.Contract.{everything, state_with, with_registers_in, with_running_in, with_lines_in, run_call, told, MeetsAlone}
 use Rattle.emulator.specs.declared.State.{State}
 use Rattle.emulator.specs.declared.Changed.{Changed}
 use Rattle.emulator.proofs.Meets.{bad_bench}
@@ -52,13 +51,12 @@ use Rattle.emulator.proofs.PowerOn.{power-refused, power-done}
 use Rattle.emulator.proofs.Running.{run_bad, run-set}
 use Rattle.emulator.proofs.DeviceTransfers.{read-refused, read_done, write-refused, write_done}
 use Rattle.vfio.specs.Entries.{entry_of, entry_at}
-use Rattle.vfio.specs.Handlers.{Replies, Admits, Answered, set_iommu_index, map_index, unmap_index, set_irqs_index, reset_index}
+use Rattle.vfio.specs.Handlers.{Replies, Admits, set_iommu_index, map_index, unmap_index, set_irqs_index, reset_index}
 use Rattle.vfio.specs.declared.Admission.{Admission}
-use Rattle.vfio.specs.declared.Map.{Map}
 use Rattle.vfio.proofs.Handlers.{reset-done}
 use Rattle.vfio.proofs.Entries.{size_room, argsz-given}
 use Rattle.vfio.proofs.Requests.{request-refused, admitted-good, admitted-size, handled-meets}
-use Rattle.capi.specs.Structs.{success, refusal, answer_struct, done_if, kept_by}
+use Rattle.capi.specs.Structs.{answer_struct, done_if, kept_by}
 use Rattle.capi.specs.Contract.{Tells, TellsAlone, FindsAt, IsNot, Fits, Replied, Handled, Judged}
 use Rattle.capi.specs.declared.Outcome.{Outcome}
 use Rattle.capi.specs.declared.Found.{Found}

@@ -25,7 +25,7 @@ ghost use Rattle.emulator.specs.Machine.{machine_of, emulator_of, both as state_
 ghost use Rattle.emulator.specs.Effect.{value};
 ghost use Rattle.emulator.specs.Requests.{size_checks};
 ghost use Rattle.emulator.specs.Calls.{power_on, request, device_read, device_write, host_write, host_read, invalidate, set_register, read_register, load_parts, save_parts, stop, start};
-ghost use Rattle.emulator.specs.Contract.{lent_memory, left_memory, remarked_memory, told, told_location, told_probes, told_line, told_walk};
+ghost use Rattle.emulator.specs.Contract.{told, told_location, told_probes, told_line, told_walk};
 ghost use Rattle.emulator.specs.declared.State.{State as StateRecord};
 ghost use Rattle.vfio.specs.Entries.{entry_at};
 ghost use Rattle.vfio.specs.Handlers.{set_iommu_index, set_irqs_index, map_index, unmap_index};
@@ -239,7 +239,6 @@ fn device_at(address: u64) -> DeviceAddress
 // ---- the calls. Each borrows the kept state and the records, and is lent memory and marks where its rule says so.
 
 // Fresh start of the first card.
-#[tactic(auto, unfolding(walks::proofs::Walk::tables_of))]
 #[unsafe(no_mangle)]
 pub extern "C" fn glint_power_on(
     state: &mut State,
@@ -247,7 +246,7 @@ pub extern "C" fn glint_power_on(
     bytes: &[u8],
     shadow: &mut [u8],
 ) -> Outcome
-    ensures { Tells (power_on Features64) [] state.old records.now (lent_memory bytes shadow) result [] (remarked_memory bytes shadow) state.new records.now }
+    ensures { Tells (power_on Features64) [] state.old records.now (memory_of bytes.now shadow.old) result [] (memory_of bytes.now shadow.new) state.new records.now }
 {
     let ok = emulator::clear_marks(records.len(), bytes, shadow);
     if ok {
@@ -257,7 +256,6 @@ pub extern "C" fn glint_power_on(
 }
 
 // Fresh start of the second card, which has 128 feature bits.
-#[tactic(auto, unfolding(walks::proofs::Walk::tables_of))]
 #[unsafe(no_mangle)]
 pub extern "C" fn glint_power_on_128(
     state: &mut State,
@@ -265,7 +263,7 @@ pub extern "C" fn glint_power_on_128(
     bytes: &[u8],
     shadow: &mut [u8],
 ) -> Outcome
-    ensures { Tells (power_on Features128) [] state.old records.now (lent_memory bytes shadow) result [] (remarked_memory bytes shadow) state.new records.now }
+    ensures { Tells (power_on Features128) [] state.old records.now (memory_of bytes.now shadow.old) result [] (memory_of bytes.now shadow.new) state.new records.now }
 {
     let ok = emulator::clear_marks(records.len(), bytes, shadow);
     if ok {
@@ -310,7 +308,6 @@ fn answered(a: Admission, buf: &mut [u8]) -> Outcome
 }
 
 // An admitted request that changes nothing of the container: a reset of the device, or one that its buffer alone answers.
-#[tactic(auto, unfolding(walks::proofs::Walk::tables_of))]
 fn answer_request(state: &mut State, a: Admission, buf: &mut [u8]) -> Outcome
     requires { a.verdict ≡ Pass → size_checks (entry_at a.index) buf.old ≡ Pass }
     ensures { (rs : List MappingRecord) → IsNot set_iommu_index a → IsNot map_index a → IsNot unmap_index a → IsNot set_irqs_index a → Handled a buf.old state.old rs result buf.new state.new rs }
@@ -323,7 +320,6 @@ fn answer_request(state: &mut State, a: Admission, buf: &mut [u8]) -> Outcome
 }
 
 // One that changes nothing of the container: it sets interrupt lines up or acts on them, or changes no line but by a reset.
-#[tactic(auto, unfolding(walks::proofs::Walk::tables_of))]
 fn irqs_or_answer(state: &mut State, a: Admission, buf: &mut [u8]) -> Outcome
     requires { a.verdict ≡ Pass → size_checks (entry_at a.index) buf.old ≡ Pass }
     ensures { (rs : List MappingRecord) → IsNot set_iommu_index a → IsNot map_index a → IsNot unmap_index a → Handled a buf.old state.old rs result buf.new state.new rs }
@@ -338,7 +334,6 @@ fn irqs_or_answer(state: &mut State, a: Admission, buf: &mut [u8]) -> Outcome
 }
 
 // One that changes no mapping: it sets the container's IOMMU type, or changes nothing of the container.
-#[tactic(auto, unfolding(walks::proofs::Walk::tables_of))]
 fn set_or_answer(state: &mut State, a: Admission, buf: &mut [u8]) -> Outcome
     requires { a.verdict ≡ Pass → size_checks (entry_at a.index) buf.old ≡ Pass }
     ensures { (rs : List MappingRecord) → IsNot map_index a → IsNot unmap_index a → Handled a buf.old state.old rs result buf.new state.new rs }
@@ -354,7 +349,6 @@ fn set_or_answer(state: &mut State, a: Admission, buf: &mut [u8]) -> Outcome
 }
 
 // One that adds no mapping: an unmap, or one that changes none.
-#[tactic(auto, unfolding(walks::proofs::Walk::tables_of))]
 fn unmap_or_answer(
     state: &mut State,
     records: &mut [Mapping],
@@ -371,7 +365,6 @@ fn unmap_or_answer(
 }
 
 // An admitted request, or one that checks 1 to 4 refused.
-#[tactic(auto, unfolding(walks::proofs::Walk::tables_of))]
 fn handle(state: &mut State, records: &mut [Mapping], a: Admission, buf: &mut [u8]) -> Outcome
     requires { Fits a buf.old state.old records.old }
     ensures { Handled a buf.old state.old records.old result buf.new state.new records.new }
@@ -383,7 +376,6 @@ fn handle(state: &mut State, records: &mut [Mapping], a: Admission, buf: &mut [u
 }
 
 // A request, by target (0 the container, 1 the device) and number.
-#[tactic(auto, unfolding(walks::proofs::Walk::tables_of))]
 #[unsafe(no_mangle)]
 pub extern "C" fn glint_request(
     state: &mut State,
@@ -394,7 +386,7 @@ pub extern "C" fn glint_request(
     number: u32,
     buf: &mut [u8],
 ) -> Outcome
-    ensures { Tells (request target number) buf.old state.old records.old (lent_memory bytes shadow) result buf.new (lent_memory bytes shadow) state.new records.new }
+    ensures { Tells (request target number) buf.old state.old records.old (memory_of bytes.now shadow.now) result buf.new (memory_of bytes.now shadow.now) state.new records.new }
 {
     let ok = emulator::usable(state, records, bytes, shadow);
     let admission = vfio::admit(ok, target, number, buf);
@@ -415,7 +407,6 @@ fn place_of(s: Search) -> usize
 }
 
 // Look-up.
-#[tactic(auto, unfolding(walks::proofs::Walk::tables_of))]
 #[unsafe(no_mangle)]
 pub extern "C" fn glint_look_up(state: &State, records: &[Mapping], device: u64) -> Found
     ensures { FindsAt (device_address device) state.now records.now result }
@@ -436,7 +427,6 @@ fn line_shown(ok: bool, lines: Lines, index: u32, line: u32) -> ShownLine
 }
 
 // Shows an interrupt line.
-#[tactic(auto, unfolding(walks::proofs::Walk::tables_of))]
 #[unsafe(no_mangle)]
 pub extern "C" fn glint_show_line(
     state: &State,
@@ -495,7 +485,6 @@ fn writing() -> bool
 }
 
 // The checks of a transfer, behind refusal 1.
-#[tactic(auto, unfolding(walks::proofs::Walk::tables_of))]
 fn check_transfer(
     ok: bool,
     count: usize,
@@ -507,7 +496,7 @@ fn check_transfer(
     write: bool,
 ) -> Checked
     requires { ok ≡ true → (Ready (table_of records.now count) (length_of bytes.now)) × (length_of bytes.now ≤ 8 * length_of shadow.now) }
-    ensures { ok ≡ true → Judged write records.now count (lent_memory bytes shadow) d n result }
+    ensures { ok ≡ true → Judged write records.now count (memory_of bytes.now shadow.now) d n result }
 {
     let held = emulator::admitted(ok, count);
     let size = emulator::admitted(ok, bytes.len());
@@ -549,7 +538,6 @@ fn judging() -> bool
 }
 
 // Walks a queue twice: the first walk judges and counts, and where all is good the second stores.
-#[tactic(auto, unfolding(walks::proofs::Walk::tables_of))]
 #[unsafe(no_mangle)]
 pub extern "C" fn glint_walk_queue(
     state: &State,
@@ -560,7 +548,7 @@ pub extern "C" fn glint_walk_queue(
     last: u16,
     numbers: &mut [u64],
 ) -> Walked
-    ensures { WalksQueue queue last numbers.old state.now records.now (lent_memory bytes shadow) result numbers.new }
+    ensures { WalksQueue queue last numbers.old state.now records.now (memory_of bytes.now shadow.now) result numbers.new }
 {
     let ok = emulator::usable(state, records, bytes, shadow);
     let count = state.count;
@@ -583,7 +571,6 @@ pub extern "C" fn glint_walk_queue(
 }
 
 // Card read.
-#[tactic(auto, unfolding(walks::proofs::Walk::tables_of))]
 #[unsafe(no_mangle)]
 pub extern "C" fn glint_device_read(
     state: &State,
@@ -593,7 +580,7 @@ pub extern "C" fn glint_device_read(
     device: u64,
     buf: &mut [u8],
 ) -> Outcome
-    ensures { Tells (device_read (device_address device)) buf.old state.now records.now (lent_memory bytes shadow) result buf.new (lent_memory bytes shadow) state.now records.now }
+    ensures { Tells (device_read (device_address device)) buf.old state.now records.now (memory_of bytes.now shadow.now) result buf.new (memory_of bytes.now shadow.now) state.now records.now }
 {
     let ok = emulator::usable(state, records, bytes, shadow);
     let count = state.count;
@@ -606,7 +593,6 @@ pub extern "C" fn glint_device_read(
 }
 
 // Card write.
-#[tactic(auto, unfolding(walks::proofs::Walk::tables_of))]
 #[unsafe(no_mangle)]
 pub extern "C" fn glint_device_write(
     state: &State,
@@ -616,7 +602,7 @@ pub extern "C" fn glint_device_write(
     device: u64,
     buf: &[u8],
 ) -> Outcome
-    ensures { Tells (device_write (device_address device)) buf.now state.now records.now (lent_memory bytes shadow) result buf.now (left_memory bytes shadow) state.now records.now }
+    ensures { Tells (device_write (device_address device)) buf.now state.now records.now (memory_of bytes.old shadow.old) result buf.now (memory_of bytes.new shadow.new) state.now records.now }
 {
     let ok = emulator::usable(state, records, bytes, shadow);
     let count = state.count;
@@ -630,13 +616,12 @@ pub extern "C" fn glint_device_write(
 
 fn host_write(ok: bool, bytes: &mut [u8], shadow: &mut [u8], address: u64, buf: &[u8]) -> Outcome
     requires { ok ≡ true → can_lend (memory_of bytes.old shadow.old) ≡ true }
-    ensures { (s : StateRecord) (rs : List MappingRecord) → ok ≡ can_use state_and_memory (emulator_of s rs (lent_memory bytes shadow)) → Tells (host_write (memory_address address)) buf.now s rs (lent_memory bytes shadow) result buf.now (left_memory bytes shadow) s rs }
+    ensures { (s : StateRecord) (rs : List MappingRecord) → ok ≡ can_use state_and_memory (emulator_of s rs (memory_of bytes.old shadow.old)) → Tells (host_write (memory_address address)) buf.now s rs (memory_of bytes.old shadow.old) result buf.now (memory_of bytes.new shadow.new) s rs }
 {
     numbers(emulator::host_write(ok, bytes, shadow, MemoryAddress(address), buf))
 }
 
 // Host store.
-#[tactic(auto, unfolding(walks::proofs::Walk::tables_of))]
 #[unsafe(no_mangle)]
 pub extern "C" fn glint_host_write(
     state: &State,
@@ -646,7 +631,7 @@ pub extern "C" fn glint_host_write(
     address: u64,
     buf: &[u8],
 ) -> Outcome
-    ensures { Tells (host_write (memory_address address)) buf.now state.now records.now (lent_memory bytes shadow) result buf.now (left_memory bytes shadow) state.now records.now }
+    ensures { Tells (host_write (memory_address address)) buf.now state.now records.now (memory_of bytes.old shadow.old) result buf.now (memory_of bytes.new shadow.new) state.now records.now }
 {
     let ok = emulator::usable(state, records, bytes, shadow);
     host_write(ok, bytes, shadow, address, buf)
@@ -654,13 +639,12 @@ pub extern "C" fn glint_host_write(
 
 fn host_read(ok: bool, bytes: &[u8], shadow: &[u8], address: u64, buf: &mut [u8]) -> Outcome
     requires { ok ≡ true → can_lend (memory_of bytes.now shadow.now) ≡ true }
-    ensures { (s : StateRecord) (rs : List MappingRecord) → ok ≡ can_use state_and_memory (emulator_of s rs (lent_memory bytes shadow)) → Tells (host_read (memory_address address)) buf.old s rs (lent_memory bytes shadow) result buf.new (lent_memory bytes shadow) s rs }
+    ensures { (s : StateRecord) (rs : List MappingRecord) → ok ≡ can_use state_and_memory (emulator_of s rs (memory_of bytes.now shadow.now)) → Tells (host_read (memory_address address)) buf.old s rs (memory_of bytes.now shadow.now) result buf.new (memory_of bytes.now shadow.now) s rs }
 {
     numbers(emulator::host_read(ok, bytes, shadow, MemoryAddress(address), buf))
 }
 
 // Host load.
-#[tactic(auto, unfolding(walks::proofs::Walk::tables_of))]
 #[unsafe(no_mangle)]
 pub extern "C" fn glint_host_read(
     state: &State,
@@ -670,7 +654,7 @@ pub extern "C" fn glint_host_read(
     address: u64,
     buf: &mut [u8],
 ) -> Outcome
-    ensures { Tells (host_read (memory_address address)) buf.old state.now records.now (lent_memory bytes shadow) result buf.new (lent_memory bytes shadow) state.now records.now }
+    ensures { Tells (host_read (memory_address address)) buf.old state.now records.now (memory_of bytes.now shadow.now) result buf.new (memory_of bytes.now shadow.now) state.now records.now }
 {
     let ok = emulator::usable(state, records, bytes, shadow);
     host_read(ok, bytes, shadow, address, buf)
@@ -678,13 +662,12 @@ pub extern "C" fn glint_host_read(
 
 fn invalidate_range(ok: bool, bytes: &[u8], shadow: &mut [u8], address: u64, length: u64) -> Outcome
     requires { ok ≡ true → can_lend (memory_of bytes.now shadow.old) ≡ true }
-    ensures { (s : StateRecord) (rs : List MappingRecord) → ok ≡ can_use state_and_memory (emulator_of s rs (lent_memory bytes shadow)) → Tells (invalidate (memory_address address) length) [] s rs (lent_memory bytes shadow) result [] (remarked_memory bytes shadow) s rs }
+    ensures { (s : StateRecord) (rs : List MappingRecord) → ok ≡ can_use state_and_memory (emulator_of s rs (memory_of bytes.now shadow.old)) → Tells (invalidate (memory_address address) length) [] s rs (memory_of bytes.now shadow.old) result [] (memory_of bytes.now shadow.new) s rs }
 {
     numbers(emulator::invalidate(ok, bytes, shadow, MemoryAddress(address), length))
 }
 
 // Forget.
-#[tactic(auto, unfolding(walks::proofs::Walk::tables_of))]
 #[unsafe(no_mangle)]
 pub extern "C" fn glint_invalidate(
     state: &State,
@@ -694,7 +677,7 @@ pub extern "C" fn glint_invalidate(
     address: u64,
     length: u64,
 ) -> Outcome
-    ensures { Tells (invalidate (memory_address address) length) [] state.now records.now (lent_memory bytes shadow) result [] (remarked_memory bytes shadow) state.now records.now }
+    ensures { Tells (invalidate (memory_address address) length) [] state.now records.now (memory_of bytes.now shadow.old) result [] (memory_of bytes.now shadow.new) state.now records.now }
 {
     let ok = emulator::usable(state, records, bytes, shadow);
     invalidate_range(ok, bytes, shadow, address, length)
@@ -714,7 +697,6 @@ fn answer_of(c: Changed) -> Outcome
 }
 
 // Sets a register.
-#[tactic(auto, unfolding(walks::proofs::Walk::tables_of))]
 #[unsafe(no_mangle)]
 pub extern "C" fn glint_set_register(
     state: &mut State,
@@ -748,7 +730,6 @@ fn read_register(
 }
 
 // Reads a register.
-#[tactic(auto, unfolding(walks::proofs::Walk::tables_of))]
 #[unsafe(no_mangle)]
 pub extern "C" fn glint_read_register(
     state: &State,
@@ -802,7 +783,6 @@ fn outcome_of(l: LoadReply) -> Outcome
 }
 
 // Loads a stream of parts.
-#[tactic(auto, unfolding(walks::proofs::Walk::tables_of))]
 #[unsafe(no_mangle)]
 pub extern "C" fn glint_load_parts(state: &mut State, records: &[Mapping], stream: &[u8]) -> Outcome
     ensures { TellsAlone load_parts stream.now state.old records.now result stream.now state.new records.now }
@@ -825,7 +805,6 @@ fn save_parts(ok: bool, words: u8, running: u8, registers: Registers, buf: &mut 
 }
 
 // Saves the registers as a stream of parts.
-#[tactic(auto, unfolding(walks::proofs::Walk::tables_of))]
 #[unsafe(no_mangle)]
 pub extern "C" fn glint_save_parts(state: &State, records: &[Mapping], buf: &mut [u8]) -> Outcome
     ensures { TellsAlone save_parts buf.old state.now records.now result buf.new state.now records.now }
@@ -844,7 +823,6 @@ fn stopped(ok: bool, was: u8) -> u8
 }
 
 // Stops the device.
-#[tactic(auto, unfolding(walks::proofs::Walk::tables_of))]
 #[unsafe(no_mangle)]
 pub extern "C" fn glint_stop(state: &mut State, records: &[Mapping]) -> Outcome
     ensures { TellsAlone stop [] state.old records.now result [] state.new records.now }
@@ -862,7 +840,6 @@ fn started(ok: bool, was: u8) -> u8
 }
 
 // Starts the device.
-#[tactic(auto, unfolding(walks::proofs::Walk::tables_of))]
 #[unsafe(no_mangle)]
 pub extern "C" fn glint_start(state: &mut State, records: &[Mapping]) -> Outcome
     ensures { TellsAlone start [] state.old records.now result [] state.new records.now }
@@ -892,7 +869,6 @@ fn no_part(refused: bool, code: u32, place: u64, next: usize) -> PartStep
 }
 
 // A step of the walker over a stream.
-#[tactic(auto, unfolding(reader::specs::Read::next_place))]
 #[unsafe(no_mangle)]
 pub extern "C" fn glint_step(stream: &[u8], place: usize) -> PartStep
     ensures { Steps stream.now place result }
