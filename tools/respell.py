@@ -120,6 +120,8 @@ def main():
     def turn(text, also=None, in_code=False):
         def swap(m):
             word = m[0]
+            if also and word in functions:
+                return word
             if also and word in also:
                 word = also[word]
             if "-" in word and m.start() > 0 and text[m.start() - 1] == "." and word not in fields:
@@ -141,11 +143,12 @@ def main():
     after = dict(before)
     tracked = subprocess.run(["git", "ls-files", "README.md", "docs", "tests", "crates/*.edit"], capture_output=True, text=True, check=True).stdout.split("\n")
     for path in tracked:
-        if not path.endswith((".md", ".edit", ".patch")) or not os.path.isfile(path):
+        if not path.endswith((".md", ".edit", ".patch")) or path == "docs/session-format.md" or not os.path.isfile(path):
             continue
         text = read(path)
         if path.endswith(".md"):
-            new = re.sub(r"`[^`\n]+`", lambda m: turn(m[0], after), text)
+            # A line of a session is no name of ours.
+            new = re.sub(r"`[^`\n]+`", lambda m: m[0] if m[0].startswith("`request ") else turn(m[0], after), text)
         else:
             new = turn(text, after)
         if new != text:
