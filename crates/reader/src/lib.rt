@@ -15,7 +15,6 @@ pub struct PartReader<'a> {
 }
 
 // Where a reader of `stream` at `place` goes on: behind the part there; after a refusal or at the end it stays.
-#[tactic(auto, unfolding(crate::specs::Read::next_place))]
 pub fn place_after(stream: &[u8], place: usize) -> usize
     ensures { result ≡ place_after stream.now place }
 {
@@ -32,7 +31,6 @@ pub fn place_after(stream: &[u8], place: usize) -> usize
     }
 }
 
-#[tactic(auto, unfolding(walks::proofs::Walk::tables_of))]
 pub fn new<'a>(stream: &'a [u8]) -> PartReader<'a>
     ensures { result ≡ reader_at stream.entry 0 }
 {
@@ -40,7 +38,6 @@ pub fn new<'a>(stream: &'a [u8]) -> PartReader<'a>
 }
 
 // What stands at the reader's place.
-#[tactic(auto, unfolding(walks::proofs::Walk::tables_of))]
 pub fn step<'a>(r: PartReader<'a>) -> Step
     ensures { result ≡ step_at r.entry.stream.now r.entry.place }
 {
@@ -48,7 +45,6 @@ pub fn step<'a>(r: PartReader<'a>) -> Step
 }
 
 // The value of the part at the reader's place, as that stretch of the stream; nothing where no part stands.
-#[tactic(auto, unfolding(walks::proofs::Walk::tables_of))]
 pub fn value<'a>(r: PartReader<'a>) -> &'a [u8]
     ensures { result.now ≡ value_at r.entry.stream.now r.entry.place }
 {
@@ -56,7 +52,6 @@ pub fn value<'a>(r: PartReader<'a>) -> &'a [u8]
 }
 
 // The same stream at the place after the step.
-#[tactic(auto, unfolding(walks::proofs::Walk::tables_of))]
 pub fn next<'a>(r: PartReader<'a>) -> PartReader<'a>
     ensures { result ≡ onward r.entry }
 {
@@ -68,7 +63,6 @@ pub fn next<'a>(r: PartReader<'a>) -> PartReader<'a>
 }
 
 // The step after the first, for callers that hold no reader: behind a part, or the same again where none stands.
-#[tactic(auto, unfolding(crate::specs::Read::second_step, walks::proofs::Walk::tables_of))]
 pub fn second(stream: &[u8]) -> Step
     ensures { result ≡ second_step stream.now }
 {
