@@ -3,7 +3,7 @@ use Rattle.std.proofs.Common.{◌≡◌, ℕ, ◌+◌, ◌-◌, ◌%◌, ◌^◌
 use native.Mathlib.Nat.{sub-zero}
 use borrow.Author.Tests.{lt-leb}
 use Rattle.answer.specs.Codes.{Range, Unmapped}
-use Rattle.answer.specs.Checks.{◌then◌, first_fault}
+use Rattle.answer.specs.Checks.{first_fault}
 use Rattle.answer.specs.Limits.{transfer_limit, length_check}
 use Rattle.answer.specs.Answer.{done, refused, settle}
 use Rattle.answer.specs.declared.Verdict.{Verdict}

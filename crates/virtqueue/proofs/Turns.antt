@@ -1,5 +1,5 @@
 -- What a turn of a walk comes to, by what its code tested.
-use Rattle.std.proofs.Common.{◌≡◌, ℕ, ◌+◌, ◌-◌, ◌/◌, ◌%◌, ◌^◌, ◌<◌, ◌≤◌, refl, ◌∙◌, arith, le-ltb, lt-ltb, eq-eqb, ne_eqb}
+use Rattle.std.proofs.Common.{◌≡◌, ℕ, ◌+◌, ◌/◌, ◌%◌, ◌^◌, ◌<◌, ◌≤◌, refl, ◌∙◌, arith, le-ltb, lt-ltb, eq-eqb, ne_eqb}
 use Rattle.answer.specs.Codes.{RingDistance, DescriptorIndex, ChainLength, Indirect}
 use Rattle.answer.specs.Checks.{◌when◌, ◌unless◌, ◌at◌}
 use Rattle.answer.specs.Answer.{Answer, done, refused, settle, ◌onward◌}

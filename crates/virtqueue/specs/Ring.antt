@@ -1,10 +1,10 @@
 -- The split virtqueue (rules 4.15 to 4.19, with the values of rules 7.37 to 7.47): what a walk of it reads, in which order, and what it comes to. All is over a way to read, so that
 -- card reads and the ledger's bytes go by one rule.
-use Rattle.std.specs.Prelude.{ℕ, zero, suc, ◌+◌, ◌-◌, ◌*◌, ◌/◌, ◌%◌, ◌^◌, Bool, true, false, not, ltb, List, [], ◌∷◌, ◌++◌, length, ◌==◌, nat_eq, nat_lt}
+use Rattle.std.specs.Prelude.{ℕ, zero, suc, ◌+◌, ◌-◌, ◌*◌, ◌/◌, ◌%◌, ◌^◌, Bool, ltb, List, [], ◌∷◌, ◌++◌, length, ◌==◌, nat_eq, nat_lt}
 use Rattle.std.proofs.Math.Option.{Option, none, some}
 use Rattle.answer.specs.Tests.{pick}
 use Rattle.answer.specs.Codes.{Index, NoSpace, QueueNotReady, RingDistance, DescriptorIndex, ChainLength, Indirect}
-use Rattle.answer.specs.Checks.{◌then◌, ◌when◌, ◌unless◌, ◌at◌}
+use Rattle.answer.specs.Checks.{◌when◌, ◌unless◌, ◌at◌}
 use Rattle.answer.specs.Answer.{Answer, done, settle, ◌onward◌}
 use Rattle.answer.specs.declared.Verdict.{Verdict}
 use Rattle.answer.specs.declared.Verdict.TheVariants.{Pass, Fail}

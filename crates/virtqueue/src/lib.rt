@@ -71,7 +71,6 @@ const NUMBERS: usize = 3;
 // ---- what is read
 
 // A start that does not fit into 64 bits stands for the last address, which is refused like it.
-#[tactic(auto, unfolding(crate::specs::Ring::capped))]
 fn offset(base: u64, n: u64) -> u64
     ensures { result ≡ capped (base + n) }
 {
@@ -116,7 +115,6 @@ fn length_of(w: Walk) -> usize
 }
 
 // A card read of `n` bytes that lie in one mapping, if in any: `m` is the one that holds the first.
-#[tactic(auto, unfolding(crate::specs::Steps::fetched_run))]
 fn fetch(m: Mapping, shadow: &[u8], d: DeviceAddress, n: usize) -> Fetched
     requires { Fetchable m d n (8 * length shadow.now) }
     ensures { (size : ℕ) → (holds m d ≡ true → in_range size m ≡ true) → result ≡ fetched_of (packed size shadow.now) m d n }
@@ -171,7 +169,6 @@ fn ended(w: Walk, code: u32, place: u64) -> Walk
 }
 
 // What is read where so many heads are left.
-#[tactic(auto, unfolding(crate::specs::Steps::next_stage))]
 fn head_or_nothing(left: u16) -> Stage
     ensures { result ≡ next_stage left }
 {
@@ -182,7 +179,6 @@ fn head_or_nothing(left: u16) -> Stage
 }
 
 // The ring's index. What lies between the two is their difference modulo 2^16.
-#[tactic(auto, unfolding(crate::specs::Steps::indexed))]
 fn index_read(q: Queue, w: Walk, index: u16) -> Walk
     ensures { result ≡ gone_on w (indexed w) (near q w.place index) }
 {
@@ -204,7 +200,6 @@ fn index_read(q: Queue, w: Walk, index: u16) -> Walk
     }
 }
 
-#[tactic(auto, unfolding(crate::specs::Steps::entered))]
 fn head_read(q: Queue, w: Walk, head: u16) -> Walk
     requires { 0 < q.size }
     ensures { result ≡ gone_on w (entered q w) (in_table q w.heads head) }
@@ -226,7 +221,6 @@ fn head_read(q: Queue, w: Walk, head: u16) -> Walk
 }
 
 // The next descriptor of a chain.
-#[tactic(auto, unfolding(crate::specs::Steps::followed))]
 fn followed(q: Queue, w: Walk, next: u16) -> Walk
     requires { w.buffers ≤ 131072 }
     ensures { result ≡ gone_on w (followed_by w) (next_of q w next) }
@@ -389,7 +383,6 @@ fn place_of(s: Search) -> usize
 }
 
 // Walks a queue to its end, or to the first refusal.
-#[tactic(auto, unfolding(walks::proofs::Walk::tables_of))]
 pub fn walk_queue(
     records: &[Mapping],
     count: usize,
@@ -422,7 +415,6 @@ pub fn walk_queue(
 }
 
 // The verdict on a walk that has ended, with room for so many numbers. No product is made, since it could wrap.
-#[tactic(auto, unfolding(crate::specs::Steps::stopped))]
 pub fn finish(w: Walk, room: usize) -> Walk
     ensures { (w.stage ≡ Nothing → result.stage ≡ Nothing) × ((a : Answer Walked) → Told w a → Told result (a onward fitting room)) }
 {
