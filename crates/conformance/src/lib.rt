@@ -35,7 +35,6 @@ enum Part {
 // ---- headers
 
 // The header of a row's part.
-#[tactic(auto, unfolding(crate::specs::Bytes::header))]
 fn header(words: u8, row: usize) -> [u8; parts::HEADER_SIZE]
     requires { (is_card words ≡ true) × (row < row_count) }
     ensures { result ≡ header_of words row }
@@ -192,7 +191,6 @@ fn is_good_byte(row: usize, v: &[u8], i: usize) -> bool
 }
 
 // Whether the row's value stands at the start of what is left of a stream.
-#[tactic(auto, unfolding(answer::specs::Checks::passes))]
 fn is_value(words: u8, row: usize, v: &[u8]) -> bool
     requires { (is_card words ≡ true) × (row < row_count) }
     ensures { result ≡ (leb (size_of words row) (length v.now) and passes (content_checks words (kind_of row) (take (size_of words row) v.now))) }
@@ -248,7 +246,6 @@ fn part_at(words: u8, row: usize, h: &[u8]) -> Part
 }
 
 // Whether every save has a part of the row.
-#[tactic(auto, unfolding(crate::specs::Bytes::required))]
 fn is_required(row: usize) -> bool
     ensures { result ≡ required row }
 {
