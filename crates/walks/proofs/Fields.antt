@@ -25,7 +25,7 @@ use denote.Struct.Values.{Values, intos}
 use borrow.Table.Owned.{ShrSlice}
 use borrow.Rule.Slice.Shared.{slice_v}
 
-module _ (S : Declared) (L : Lawss S.parts) (k : ℕ) (v : Values S.parts) (ℓ : Lifetime) (κ : Lft) (R : RattleType) (x : Bor (List R.Denot)) (is : field_own S.parts L k (get_at S.parts k v) ≡ (N.ShrSlice ℓ κ R).own x (slice_v x ∷ []))
+module _ (S : Declared) (L : Lawss S.parts) (k : ℕ) (v : Values S.parts) (ℓ : Lifetime) (κ : Lft) (R : RattleType) (x : Bor (List R.Denot)) (is : field_own S.parts L k (get_at S.parts k v) ≡ (N.ShrSlice ℓ κ R).own_val x (slice_v x ∷ []))
     {M : Type 1} {𝓤 : Ura M} (𝓛 : Logic 𝓤) where
   pub opened : (w : Val) → ent 𝓤 (sem 𝓛 ((Struct (shape S)).own_val (intos S.parts v) (w ∷ []))) (sem 𝓛 ((ShrSlice erased κ R).own_val x))
   opened w = qed 𝓛 (‵ ((Struct (shape S)).own_val (intos S.parts v) (w ∷ [])) ∷ []) {P = sem 𝓛 ((ShrSlice erased κ R).own_val x)} (

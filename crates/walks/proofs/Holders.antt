@@ -11,7 +11,7 @@ use mathlib.Core.Path.{◌≡◌, refl, sym, ap, subst}
 use mathlib.Core.List.{List, [], ◌∷◌}
 use mathlib.Core.Option.{some}
 use seplogic.Ra.Ura.{Ura}
-use seplogic.Ra.TreeShare.{full_share}
+use base.Fraction.{full_share}
 use lib.Dec.{T}
 use mir.Syntax.{Sym, Ty, Tys, Lifetime, Written, ty_struct, erased, named, copy, place}
 use mir.Val.{Val, Vals, vstruct, has_ty, WT}
@@ -26,7 +26,7 @@ use prog.Wp.{Env, spot_of}
 use types.Logic.{Logic, sem}
 use types.Kit.{mean, qed, raw, use0, use1, use2, given, ‵, ◌⊛◌, ◌$◌, !, split, join, move, learn, check, rewrite, done}
 use types.Run.{forget, well_typed}
-use denote.RattleType.{RattleType}
+use denote.RattleType.{RattleType, RowLaws}
 use denote.Ref.{Bor, NamedLft}
 use denote.Exit.{Kept, Exit, yes, Last, left}
 use denote.Shadow.{shadow, shows_shadow}
@@ -39,22 +39,25 @@ use borrow.Table.Owned.{ShrSlice, shr_slice_copy}
 use borrow.Table.Reads.{ReadsAs, ReadsAt, ToRoom, row_acc, field_Shows}
 use borrow.Rule.Scalar.{o_at, Oper-go, Oper-wt}
 use borrow.Kind.ShrRef.{Spares}
-use borrow.Fn.Kind.{Kind, Laws, ParamKind, ResKind, ResLaws, ResultKind}
+use borrow.Fn.Kind.{Kind, Laws, ParamKind, ResKind, ResLaws, ResultKind, told, told_res}
 use borrow.Fn.Leases.{pin_at, κsOf, lft_κs}
 
 pub record Holder : Type 3 where
   pub D : Type 0
   pub item : RattleType  -- the type of the slice's elements
+  pub item_laws : RowLaws item
   pub slice : D → Bor (List item.Denot)
   pub name : Sym
   pub tys : Lifetime → Tys
   pub vals : D → Vals
-  -- the rest of its type, at a lifetime
+  -- the rest of its type, at a lifetime: `lives` is the lifetime that a value names, and `shr_at` what a `&` to one holds
   pub written : NamedLft → Written
   pub reaches : NamedLft → List (Written × List Ty)
+  pub lives : NamedLft → Lft
   pub own : NamedLft → D → List Val → Fml
   pub exit : NamedLft → Kept → Exit D
   pub coded : NamedLft → Coded D
+  pub shr_at : NamedLft → D → ℕ → ℕ → Lft → Fml
   -- it is at exit as it was passed, and nothing is said of it there
   pub last : (a : NamedLft) (x : D) → Last (exit a yes) x
   pub silent : (a : NamedLft) (x : D) (f : Last (exit a yes) x) → left (exit a yes) x f ≡ ftrue
@@ -90,7 +93,7 @@ module _ (S : Holder) where
   val x = vstruct (S.vals x)
 
   abbrev pub type : NamedLft → RattleType
-  type a = record { Denot = S.D; mir = spelled_at a.mir ∷ []; written = S.written a; reaches = S.reaches a; own_val = S.own a; exit = S.exit a; coded = S.coded a }
+  type a = record { Denot = S.D; mir = spelled_at a.mir ∷ []; written = S.written a; reaches = S.reaches a; lives = S.lives a; own_val = S.own a; exit = S.exit a; coded = S.coded a; shr_at = S.shr_at a }
 
   -- what its slice owns
   abbrev Slice : Lft → S.D → Fml
@@ -103,7 +106,7 @@ module _ (S : Holder) where
     fresh = λ α. Apart α β;
     knows = λ x. Unit {0};
     stays = λ M 𝓤 𝓛 α a ρ f x b. subst (λ (k : Lft). ent 𝓤 (mean 𝓛 (‵ (fat full_share (spelled_at ℓ) b zero (val x)) ⊛ ‵ (Slice (lft ρ β) x))) (mean 𝓛 (‵ (fat full_share (spelled_at ℓ) b zero (val x)) ⊛ ‵ (Slice k x)))) (sym (rd_wr_other α β f a ρ)) (id⊢ 𝓤 _);
-    tells = λ M 𝓤 H A ρ x b. guard_i 𝓤 (Unit {0}) _ tt;
+    tells = λ M 𝓤 𝓛 ρ x b. guard_i 𝓤 (Unit {0}) _ tt;
   }
 
   module _ {M : Type 1} {𝓤 : Ura M} (𝓛 : Logic 𝓤) (ℓ : Lifetime) (α : ℕ) where
@@ -111,7 +114,7 @@ module _ (S : Holder) where
 
     pub spares_held : Spares 𝓛 (held ℓ α) (λ ρ x. Slice (lft ρ α) x)
     spares_held ρ x b = qed 𝓛 (row_i 𝓛 ρ (held ℓ α) x b ∷ []) {P = sep 𝓤 (sem 𝓛 (Slice (lft ρ α) x)) (mean 𝓛 (row_i 𝓛 ρ (held ℓ α) x b))} (
-        split ! $ move ! (1 ∷ []) $ use1 𝓛 (‵ (Slice (lft ρ α) x) ⊛ ‵ (Slice (lft ρ α) x)) ((shr_slice_copy 𝓛 erased (lft ρ α) S.item).twice (S.slice x)) $ split ! $ move ! (0 ∷ 2 ∷ 1 ∷ []) $ done !)
+        split ! $ move ! (1 ∷ []) $ use1 𝓛 (‵ (Slice (lft ρ α) x) ⊛ ‵ (Slice (lft ρ α) x)) ((shr_slice_copy 𝓛 erased (lft ρ α) S.item S.item_laws).twice (S.slice x)) $ split ! $ move ! (0 ∷ 2 ∷ 1 ∷ []) $ done !)
 
     pub reads_held : ReadsAs 𝓛 (held ℓ α) (spelled_at ℓ) val
     reads_held ρ x b =
@@ -237,7 +240,7 @@ module _ (S : Holder) where
       }
 
   abbrev pub holder : {n : ℕ} (j : ℕ) → Within n j → ParamKind n
-  holder {n} j ok = record { is = kind n j ok; mir_is = λ κs. refl; laws = λ M 𝓤 𝓛. laws n j ok 𝓛 }
+  holder {n} j ok = record { is = kind n j ok; mir_is = λ κs. refl; laws = λ M 𝓤 𝓛. told (laws n j ok 𝓛) }
 
   abbrev pub handed : {n : ℕ} (j : ℕ) → Within n j → ResultKind n
-  handed {n} j ok = record { is = result n j ok; mir_is = λ κs. refl; laws = λ M 𝓤 𝓛. res_laws n j ok 𝓛 }
+  handed {n} j ok = record { is = result n j ok; mir_is = λ κs. refl; laws = λ M 𝓤 𝓛. told_res (res_laws n j ok 𝓛) }

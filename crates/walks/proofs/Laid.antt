@@ -8,7 +8,7 @@ use Prim.Native.Nat.{ℕ, zero}
 use mathlib.Core.Path.{◌≡◌, refl, sym, subst}
 use mathlib.Core.List.{List, [], ◌∷◌}
 use seplogic.Ra.Ura.{Ura}
-use seplogic.Ra.TreeShare.{full_share}
+use base.Fraction.{full_share}
 use lib.Dec.{T}
 use mir.Syntax.{Ty, Lifetime, Rv as RValue, place, assign, rv_opd, aggregate, erased}
 use mir.Val.{Val, vstruct, of_list, has_ty, WT}
