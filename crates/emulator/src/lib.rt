@@ -128,7 +128,6 @@ pub fn sound(state: &State, records: &[Mapping]) -> bool
 }
 
 // Whether memory and marks, by their lengths, can be lent.
-#[tactic(auto, unfolding(crate::specs::Machine::lendable, memory::specs::Shadow::shadow_length))]
 fn lendable(bytes: &[u8], shadow: &[u8]) -> bool
     ensures { result ≡ can_lend (memory_of bytes.now shadow.now) }
 {
@@ -217,7 +216,6 @@ pub fn fresh_128(length: usize) -> State
 }
 
 // Look-up: where a device address lies in memory, and with which rights. `m` is the first mapping that ends past it.
-#[tactic(auto, unfolding(crate::specs::Calls::given, crate::specs::Machine::usable, crate::specs::Machine::emulator_of, crate::specs::Effect::carried, answer::specs::Answer::verdict, answer::specs::Tests::pick, crate::specs::Machine::machine_of))]
 pub fn locate(ok: bool, d: DeviceAddress, m: Mapping, probes: u64) -> Location
     requires { ok ≡ true → holds m d ≡ true → in_range memory_limit m ≡ true }
     ensures { (s : StateRecord) (rs : List MappingRecord) → ok ≡ sound_machine (length rs) (machine_of s rs) → (ok ≡ true → shown_by m d ≡ translate (machine_of s rs).mappings d) → (ok ≡ true → probes ≡ probes_for (machine_of s rs).mappings d) → (mem : Memory) → Locates d s rs mem result }
@@ -236,7 +234,6 @@ pub fn locate(ok: bool, d: DeviceAddress, m: Mapping, probes: u64) -> Location
 }
 
 // Host store: `buf` goes to memory from `a` on, and its bytes are written.
-#[tactic(auto, unfolding(crate::specs::Calls::given))]
 pub fn host_write(
     ok: bool,
     bytes: &mut [u8],
@@ -263,7 +260,6 @@ pub fn host_write(
 }
 
 // Host load: the whole of `buf` is filled from memory at `a`.
-#[tactic(auto, unfolding(crate::specs::Calls::given))]
 pub fn host_read(ok: bool, bytes: &[u8], shadow: &[u8], a: MemoryAddress, buf: &mut [u8]) -> Answer
     requires { ok ≡ true → can_lend (memory_of bytes.now shadow.now) ≡ true }
     ensures { (s : StateRecord) (rs : List MappingRecord) → ok ≡ can_use state_and_memory (emulator_of s rs (memory_of bytes.now shadow.now)) → Meets (host_read a) buf.old s rs (memory_of bytes.now shadow.now) (told result) buf.new (memory_of bytes.now shadow.now) s rs }
@@ -284,7 +280,6 @@ pub fn host_read(ok: bool, bytes: &[u8], shadow: &[u8], a: MemoryAddress, buf: &
 }
 
 // Forget: the marks of `n` bytes from `a` on are cleared; the bytes stay.
-#[tactic(auto, unfolding(crate::specs::Calls::given))]
 pub fn invalidate(ok: bool, bytes: &[u8], shadow: &mut [u8], a: MemoryAddress, n: u64) -> Answer
     requires { ok ≡ true → can_lend (memory_of bytes.now shadow.old) ≡ true }
     ensures { (s : StateRecord) (rs : List MappingRecord) → ok ≡ can_use state_and_memory (emulator_of s rs (memory_of bytes.now shadow.old)) → Meets (calls.invalidate a n) [] s rs (memory_of bytes.now shadow.old) (told result) [] (memory_of bytes.now shadow.new) s rs }
@@ -312,7 +307,6 @@ fn unchanged(code: u32, place: u64, registers: Registers) -> Changed
 }
 
 // Sets the register of a type and a selector number to the value `v`, in the registers of a card.
-#[tactic(auto, unfolding(crate::specs::Calls::given, crate::specs::Machine::usable, crate::specs::Machine::emulator_of))]
 pub fn set_register(
     ok: bool,
     words: u8,
@@ -341,7 +335,6 @@ pub fn set_register(
 }
 
 // Reads the register of a type and a selector number: its value goes to the buffer's start, and its length is the result.
-#[tactic(auto, unfolding(crate::specs::Calls::given, crate::specs::Machine::usable, crate::specs::Machine::emulator_of))]
 pub fn read_register(
     ok: bool,
     words: u8,
@@ -367,7 +360,6 @@ pub fn read_register(
 }
 
 // Shows an interrupt line, by its index and its number there.
-#[tactic(auto, unfolding(crate::specs::Calls::given, crate::specs::Machine::usable, crate::specs::Machine::emulator_of))]
 pub fn show_line(ok: bool, lines: Lines, index: u32, line: u32) -> Shown
     ensures { (s : StateRecord) (rs : List MappingRecord) → ok ≡ sound_machine (length rs) (machine_of s rs) → lines ≡ s.lines → MeetsAlone (show_line index line) [] s rs (told_line result) [] s rs }
 {
@@ -456,7 +448,6 @@ pub fn load_registers(ok: bool, words: u8, running: u8, stream: &[u8]) -> Loaded
 }
 
 // Saves the registers as a stream of parts at the buffer's start; its length is the result.
-#[tactic(auto, unfolding(crate::specs::Calls::given, crate::specs::Machine::usable, crate::specs::Machine::emulator_of))]
 pub fn save_parts(ok: bool, words: u8, running: u8, registers: Registers, buf: &mut [u8]) -> Answer
     requires { ok ≡ true → is_card words ≡ true }
     ensures { (s : StateRecord) (rs : List MappingRecord) → ok ≡ sound_machine (length rs) (machine_of s rs) → words ≡ s.words → running ≡ s.running → registers ≡ s.registers → MeetsAlone save_parts buf.old s rs (told result) buf.new s rs }
