@@ -5,7 +5,6 @@ use mathlib.Core.Bool.{Bool}
 use mathlib.Core.List.{List, ◌∷◌}
 use mathlib.Core.Option.{Option, some, none}
 use lib.ListN.{length}
-use Rattle.answer.specs.Tests.{◌and◌}
 use Rattle.answer.specs.Codes.{NoRight, Unwritten, Range}
 use Rattle.answer.specs.Checks.{◌then◌, ◌unless◌}
 use Rattle.answer.specs.Limits.{length_check}

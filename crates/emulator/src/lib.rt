@@ -20,7 +20,7 @@ ghost use Rattle.virtqueue.specs.Progress.{begun};
 ghost use Rattle.emulator.specs.Machine.{machine_of, emulator_of, both as state_and_memory, sound as sound_machine, lendable as can_lend, lendable_records, usable as can_use, powered_on};
 ghost use Rattle.emulator.specs.Calls.{host_write, host_read, set_register, read_register, show_line, save_parts, load_on, queue_value};
 ghost use Rattle.emulator.specs.Calls as calls;
-ghost use Rattle.emulator.specs.Contract.{Meets, MeetsAlone, Locates, lent_memory, left_memory, remarked_memory, told, told_line, with_registers_in, state_with, everything, queue_register, opening_checks};
+ghost use Rattle.emulator.specs.Contract.{Meets, MeetsAlone, Locates, told, told_line, with_registers_in, state_with, everything, queue_register, opening_checks};
 ghost use Rattle.emulator.specs.declared.State.{State as StateRecord};
 
 use address::{DeviceAddress, MemoryAddress};
@@ -110,7 +110,6 @@ fn both(a: bool, b: bool) -> bool
 }
 
 // Whether a kept state is sound with the records that are lent.
-#[tactic(auto, unfolding(walks::proofs::Walk::tables_of))]
 pub fn sound(state: &State, records: &[Mapping]) -> bool
     ensures { result ≡ sound_machine (length records.now) (machine_of state.now records.now) }
 {
@@ -129,9 +128,8 @@ pub fn sound(state: &State, records: &[Mapping]) -> bool
 }
 
 // Whether memory and marks, by their lengths, can be lent.
-#[tactic(auto, unfolding(crate::specs::Machine::lendable, memory::specs::Shadow::shadow_length))]
 fn lendable(bytes: &[u8], shadow: &[u8]) -> bool
-    ensures { result ≡ can_lend (lent_memory bytes shadow) }
+    ensures { result ≡ can_lend (memory_of bytes.now shadow.now) }
 {
     // One mark byte for each eight bytes begun; no sum is made of a length that is not judged yet.
     if shadow.len() != bytes.len() / 8 + (bytes.len() % 8 + 7) / 8 {
@@ -142,7 +140,7 @@ fn lendable(bytes: &[u8], shadow: &[u8]) -> bool
 
 // Whether they can be lent, and memory has the noted length.
 fn lendable_as_noted(noted: u64, bytes: &[u8], shadow: &[u8]) -> bool
-    ensures { result ≡ (can_lend (lent_memory bytes shadow) and eqb (length bytes.now) noted) }
+    ensures { result ≡ (can_lend (memory_of bytes.now shadow.now) and eqb (length bytes.now) noted) }
 {
     if !lendable(bytes, shadow) {
         return false;
@@ -151,9 +149,8 @@ fn lendable_as_noted(noted: u64, bytes: &[u8], shadow: &[u8]) -> bool
 }
 
 // Whether a call that is given state, records, memory and marks may use them.
-#[tactic(auto, unfolding(walks::proofs::Walk::tables_of))]
 pub fn usable(state: &State, records: &[Mapping], bytes: &[u8], shadow: &[u8]) -> bool
-    ensures { result ≡ can_use state_and_memory (emulator_of state.now records.now (lent_memory bytes shadow)) }
+    ensures { result ≡ can_use state_and_memory (emulator_of state.now records.now (memory_of bytes.now shadow.now)) }
 {
     let length = state.memory_length;
     let lent = lendable_as_noted(length, bytes, shadow);
@@ -174,7 +171,7 @@ pub fn admitted(ok: bool, n: usize) -> usize
 
 // Fresh start, as far as memory goes: the marks are cleared where records, memory and marks can be lent, and it says whether they can.
 pub fn clear_marks(room: usize, bytes: &[u8], shadow: &mut [u8]) -> bool
-    ensures { (result ≡ (can_lend (lent_memory bytes shadow) and lendable_records room)) × (remarked_memory bytes shadow ≡ pick result (edited (clears (memory_address 0) (length bytes.now)) (lent_memory bytes shadow)) (lent_memory bytes shadow)) }
+    ensures { (result ≡ (can_lend (memory_of bytes.now shadow.old) and lendable_records room)) × (memory_of bytes.now shadow.new ≡ pick result (edited (clears (memory_address 0) (length bytes.now)) (memory_of bytes.now shadow.old)) (memory_of bytes.now shadow.old)) }
 {
     if !lendable(bytes, shadow) {
         return false;
@@ -219,7 +216,6 @@ pub fn fresh_128(length: usize) -> State
 }
 
 // Look-up: where a device address lies in memory, and with which rights. `m` is the first mapping that ends past it.
-#[tactic(auto, unfolding(crate::specs::Calls::given, crate::specs::Machine::usable, crate::specs::Machine::emulator_of, crate::specs::Effect::carried, answer::specs::Answer::verdict, answer::specs::Tests::pick, crate::specs::Machine::machine_of))]
 pub fn locate(ok: bool, d: DeviceAddress, m: Mapping, probes: u64) -> Location
     requires { ok ≡ true → holds m d ≡ true → in_range memory_limit m ≡ true }
     ensures { (s : StateRecord) (rs : List MappingRecord) → ok ≡ sound_machine (length rs) (machine_of s rs) → (ok ≡ true → shown_by m d ≡ translate (machine_of s rs).mappings d) → (ok ≡ true → probes ≡ probes_for (machine_of s rs).mappings d) → (mem : Memory) → Locates d s rs mem result }
@@ -238,7 +234,6 @@ pub fn locate(ok: bool, d: DeviceAddress, m: Mapping, probes: u64) -> Location
 }
 
 // Host store: `buf` goes to memory from `a` on, and its bytes are written.
-#[tactic(auto, unfolding(crate::specs::Calls::given))]
 pub fn host_write(
     ok: bool,
     bytes: &mut [u8],
@@ -247,7 +242,7 @@ pub fn host_write(
     buf: &[u8],
 ) -> Answer
     requires { ok ≡ true → can_lend (memory_of bytes.old shadow.old) ≡ true }
-    ensures { (s : StateRecord) (rs : List MappingRecord) → ok ≡ can_use state_and_memory (emulator_of s rs (lent_memory bytes shadow)) → Meets (host_write a) buf.now s rs (lent_memory bytes shadow) (told result) buf.now (left_memory bytes shadow) s rs }
+    ensures { (s : StateRecord) (rs : List MappingRecord) → ok ≡ can_use state_and_memory (emulator_of s rs (memory_of bytes.old shadow.old)) → Meets (host_write a) buf.now s rs (memory_of bytes.old shadow.old) (told result) buf.now (memory_of bytes.new shadow.new) s rs }
 {
     if !ok {
         return Answer::Refused(answer::BAD_BENCH, 0);
@@ -265,10 +260,9 @@ pub fn host_write(
 }
 
 // Host load: the whole of `buf` is filled from memory at `a`.
-#[tactic(auto, unfolding(crate::specs::Calls::given))]
 pub fn host_read(ok: bool, bytes: &[u8], shadow: &[u8], a: MemoryAddress, buf: &mut [u8]) -> Answer
     requires { ok ≡ true → can_lend (memory_of bytes.now shadow.now) ≡ true }
-    ensures { (s : StateRecord) (rs : List MappingRecord) → ok ≡ can_use state_and_memory (emulator_of s rs (lent_memory bytes shadow)) → Meets (host_read a) buf.old s rs (lent_memory bytes shadow) (told result) buf.new (lent_memory bytes shadow) s rs }
+    ensures { (s : StateRecord) (rs : List MappingRecord) → ok ≡ can_use state_and_memory (emulator_of s rs (memory_of bytes.now shadow.now)) → Meets (host_read a) buf.old s rs (memory_of bytes.now shadow.now) (told result) buf.new (memory_of bytes.now shadow.now) s rs }
 {
     if !ok {
         return Answer::Refused(answer::BAD_BENCH, 0);
@@ -286,10 +280,9 @@ pub fn host_read(ok: bool, bytes: &[u8], shadow: &[u8], a: MemoryAddress, buf: &
 }
 
 // Forget: the marks of `n` bytes from `a` on are cleared; the bytes stay.
-#[tactic(auto, unfolding(crate::specs::Calls::given))]
 pub fn invalidate(ok: bool, bytes: &[u8], shadow: &mut [u8], a: MemoryAddress, n: u64) -> Answer
     requires { ok ≡ true → can_lend (memory_of bytes.now shadow.old) ≡ true }
-    ensures { (s : StateRecord) (rs : List MappingRecord) → ok ≡ can_use state_and_memory (emulator_of s rs (lent_memory bytes shadow)) → Meets (calls.invalidate a n) [] s rs (lent_memory bytes shadow) (told result) [] (remarked_memory bytes shadow) s rs }
+    ensures { (s : StateRecord) (rs : List MappingRecord) → ok ≡ can_use state_and_memory (emulator_of s rs (memory_of bytes.now shadow.old)) → Meets (calls.invalidate a n) [] s rs (memory_of bytes.now shadow.old) (told result) [] (memory_of bytes.now shadow.new) s rs }
 {
     if !ok {
         return Answer::Refused(answer::BAD_BENCH, 0);
@@ -314,7 +307,6 @@ fn unchanged(code: u32, place: u64, registers: Registers) -> Changed
 }
 
 // Sets the register of a type and a selector number to the value `v`, in the registers of a card.
-#[tactic(auto, unfolding(crate::specs::Calls::given, crate::specs::Machine::usable, crate::specs::Machine::emulator_of))]
 pub fn set_register(
     ok: bool,
     words: u8,
@@ -343,7 +335,6 @@ pub fn set_register(
 }
 
 // Reads the register of a type and a selector number: its value goes to the buffer's start, and its length is the result.
-#[tactic(auto, unfolding(crate::specs::Calls::given, crate::specs::Machine::usable, crate::specs::Machine::emulator_of))]
 pub fn read_register(
     ok: bool,
     words: u8,
@@ -369,7 +360,6 @@ pub fn read_register(
 }
 
 // Shows an interrupt line, by its index and its number there.
-#[tactic(auto, unfolding(crate::specs::Calls::given, crate::specs::Machine::usable, crate::specs::Machine::emulator_of))]
 pub fn show_line(ok: bool, lines: Lines, index: u32, line: u32) -> Shown
     ensures { (s : StateRecord) (rs : List MappingRecord) → ok ≡ sound_machine (length rs) (machine_of s rs) → lines ≡ s.lines → MeetsAlone (show_line index line) [] s rs (told_line result) [] s rs }
 {
@@ -458,7 +448,6 @@ pub fn load_registers(ok: bool, words: u8, running: u8, stream: &[u8]) -> Loaded
 }
 
 // Saves the registers as a stream of parts at the buffer's start; its length is the result.
-#[tactic(auto, unfolding(crate::specs::Calls::given, crate::specs::Machine::usable, crate::specs::Machine::emulator_of))]
 pub fn save_parts(ok: bool, words: u8, running: u8, registers: Registers, buf: &mut [u8]) -> Answer
     requires { ok ≡ true → is_card words ≡ true }
     ensures { (s : StateRecord) (rs : List MappingRecord) → ok ≡ sound_machine (length rs) (machine_of s rs) → words ≡ s.words → running ≡ s.running → registers ≡ s.registers → MeetsAlone save_parts buf.old s rs (told result) buf.new s rs }
