@@ -5,7 +5,7 @@ use Rattle.emulator.specs.Effect.{value}
 use Rattle.emulator.specs.Requests.{set_irqs}
 use Rattle.emulator.specs.Contract.{with_lines_in}
 use Rattle.vfio.specs.Handlers.{set_irqs_index}
-use Rattle.vfio.proofs.Handlers.{set_irqs}
+use Rattle.vfio.proofs.Handlers.{set_irqs_lem}
 use Rattle.capi.proofs.Calls.{is-not, data_asks, handles}
 use Rattle.capi.proofs.irqs_or_answer.Goals as goal
 
@@ -16,7 +16,7 @@ pub returns-then-sets_irqs : goal.returns-then-sets_irqs
 returns-then-sets_irqs c = λ rs set map unmap.
     handles c.args.a c.args.buf.now c.args.state.now rs set_irqs_index c.sets_irqs.ensures c.if-sets_irqs.true set_irqs refl (settle c.plan_irqs-change.result.verdict (value 0))
     c.args.buf.now (with_lines_in c.kept_lines-state.result c.args.state.now) rs
-    (set_irqs c.args.buf.now c.args.state.now rs c.plan_irqs-change.result c.plan_irqs-change.ensures c.kept_lines-state.result c.kept_lines-state.ensures)
+    (set_irqs_lem c.args.buf.now c.args.state.now rs c.plan_irqs-change.result c.plan_irqs-change.ensures c.kept_lines-state.result c.kept_lines-state.ensures)
     c.irqs_set.result c.irqs_set.ensures
 
 pub returns : goal.returns

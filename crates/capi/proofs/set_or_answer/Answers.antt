@@ -5,7 +5,7 @@ use Rattle.emulator.specs.Effect.{value}
 use Rattle.emulator.specs.Requests.{set_iommu}
 use Rattle.emulator.specs.Contract.{with_iommu_type_in}
 use Rattle.vfio.specs.Handlers.{set_iommu_index}
-use Rattle.vfio.proofs.Handlers.{set_iommu}
+use Rattle.vfio.proofs.Handlers.{set_iommu_lem}
 use Rattle.capi.proofs.Calls.{is-not, size-asks, handles}
 use Rattle.capi.proofs.set_or_answer.Goals as goal
 
@@ -16,7 +16,7 @@ pub returns-then-sets_iommu : goal.returns-then-sets_iommu
 returns-then-sets_iommu c = λ rs map unmap.
     handles c.args.a c.args.buf.now c.args.state.now rs set_iommu_index c.sets_iommu.ensures c.if-sets_iommu.true set_iommu refl (settle c.plan_iommu-change.result.verdict (value 0))
     c.args.buf.now (with_iommu_type_in c.kept_type-state.result c.args.state.now) rs
-    (set_iommu c.args.buf.now c.args.state.now rs c.plan_iommu-change.result c.plan_iommu-change.ensures c.kept_type-state.result c.kept_type-state.ensures)
+    (set_iommu_lem c.args.buf.now c.args.state.now rs c.plan_iommu-change.result c.plan_iommu-change.ensures c.kept_type-state.result c.kept_type-state.ensures)
     c.iommu_set.result c.iommu_set.ensures
 
 pub returns : goal.returns
