@@ -35,14 +35,15 @@ def read(path):
         return f.read()
 
 
-def defined(text):
-    """The names that a file of specs/ or proofs/ defines, in order: definitions, lemmas, fields, and those local to one."""
+def defined(text, several=True):
+    """The names that a file of specs/ or proofs/ defines, in order: definitions, lemmas, fields, and those local to one; with `several`, also
+    constructors and variables that stand side by side before one type."""
     found = []
     for line in text.split("\n"):
         m = DEFINED.match(line)
         if m and not re.match(r"\s*(--|use\b|infix|module|unfolding|let\b|in\b|λ)", line) and m[3] not in ("let", "in", "_", "λ"):
             found.append(m[3])
-        elif m := SEVERAL.match(line):
+        elif several and (m := SEVERAL.match(line)):
             found += m[1].split()
     return found
 
@@ -63,7 +64,7 @@ def main():
     for path in files:
         old = subprocess.run(["git", "show", "HEAD:" + path], capture_output=True, text=True)
         if old.returncode == 0:
-            a, b = defined(old.stdout), defined(read(path))
+            a, b = defined(old.stdout, False), defined(read(path), False)
             if len(a) == len(b):
                 for x, y in zip(a, b):
                     if x != y and "_" in y.replace("◌", "") or x != y and "◌" in y:
@@ -75,7 +76,7 @@ def main():
         for name in defined(read(path)):
             owners[name].add(path)
     names = set(owners)
-    plain = {n for n in names if "-" not in n}
+    plain = {n for path in files for n in defined(read(path), False) if "-" not in n}
     words = {snake(n) for n in plain} | functions | LIBRARY
 
     def joined(parts):
