@@ -10,8 +10,7 @@ use lib.ListN.{length}
 use borrow.Author.Tests.{leb-true, ltb-false}
 use Rattle.answer.specs.Tests.{◌and◌}
 use Rattle.answer.specs.Answer.{Answer, done, settle}
-use Rattle.answer.specs.declared.Verdict.{Verdict}
-use Rattle.answer.specs.declared.Verdict.TheVariants.{Pass, Fail}
+use Rattle.answer.specs.Checks.{Verdict, Pass, Fail}
 use Rattle.answer.proofs.Tests.{and_true}
 use Rattle.answer.proofs.Checks.{never, then_pass, when_pass, unless_pass}
 use Rattle.wire.proofs.Laws.{field-sets}

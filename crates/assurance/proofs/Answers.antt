@@ -4,8 +4,7 @@ use native.Mathlib.Omega.{arith}
 use mathlib.Core.Path.{◌≡◌, refl}
 use mathlib.Core.List.{List}
 use Rattle.answer.specs.Answer.{done, refused, settle}
-use Rattle.answer.specs.declared.Verdict.{Verdict}
-use Rattle.answer.specs.declared.Verdict.TheVariants.{Pass, Fail}
+use Rattle.answer.specs.Checks.{Verdict, Pass, Fail}
 use Rattle.emulator.specs.Machine.{Emulator}
 use Rattle.emulator.specs.Effect.{Result, outcome_of}
 use Rattle.emulator.specs.Calls.{Call, checks, effect, outcome}

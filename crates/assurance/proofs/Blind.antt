@@ -11,20 +11,16 @@ use lib.ListN.{length}
 use lib.Dec.{eqb, leb, ltb}
 use borrow.Author.Tests.{leb-true}
 use Rattle.answer.specs.Tests.{◌and◌, ◌or◌, pick}
-use Rattle.answer.specs.Checks.{◌then◌, first_fault}
+use Rattle.answer.specs.Checks.{Verdict, Pass, Fail, ◌then◌, first_fault}
 use Rattle.answer.specs.Answer.{Answer, settle, result_or}
-use Rattle.answer.specs.declared.Verdict.{Verdict}
-use Rattle.answer.specs.declared.Verdict.TheVariants.{Pass, Fail}
 use Rattle.answer.proofs.Tests.{and_true}
 use Rattle.answer.proofs.Checks.{never, then_pass, unless_pass, first_fault-all}
 use Rattle.address.specs.Address.{device_address, memory_address, device_offset, memory_offset, in_memory_range}
 use Rattle.address.specs.declared.DeviceAddress.{DeviceAddress}
 use Rattle.address.specs.declared.MemoryAddress.{MemoryAddress}
 use Rattle.wire.specs.Field.{field, slice}
-use Rattle.iommu.specs.Table.{translate}
+use Rattle.iommu.specs.Table.{Translation, At, Nowhere, translate}
 use Rattle.iommu.specs.declared.Mapping.{Mapping}
-use Rattle.iommu.specs.declared.Translation.{Translation}
-use Rattle.iommu.specs.declared.Translation.TheVariants.{At, Nowhere}
 use Rattle.memory.specs.Shadow.{Shadow, initialized}
 use Rattle.memory.specs.Memory.{Memory, byte_at, bytes_from}
 use Rattle.memory.specs.Transfers.{unwritten_at, unwritten_in, host_write_checks, host_read_checks}

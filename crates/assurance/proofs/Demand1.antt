@@ -6,11 +6,9 @@ use mathlib.Core.List.{List}
 use mathlib.Core.Option.{Option, none, some}
 use Rattle.answer.specs.Limits.{length_check}
 use Rattle.answer.specs.Answer.{Answer, refused, verdict}
-use Rattle.answer.specs.declared.Verdict.{Verdict}
-use Rattle.answer.specs.declared.Verdict.TheVariants.{Pass, Fail}
+use Rattle.answer.specs.Checks.{Verdict, Pass, Fail}
 use Rattle.iommu.specs.Requests.{translate_checks, set_iommu_checks, map_checks, unmap_checks}
-use Rattle.iommu.specs.declared.Translation.{Translation}
-use Rattle.iommu.specs.declared.Translation.TheVariants.{At, Nowhere}
+use Rattle.iommu.specs.Table.{Translation, At, Nowhere}
 use Rattle.iommu.specs.declared.Mapping.{Mapping}
 use Rattle.memory.specs.Memory.{Memory, edited}
 use Rattle.memory.specs.Shadow.{Shadow}
@@ -19,11 +17,9 @@ use Rattle.dma.specs.Transfers.{read_fault, write_fault, transfer_checks, device
 use Rattle.registers.specs.File.{File}
 use Rattle.registers.specs.Values.{content_checks, value_checks}
 use Rattle.registers.specs.Access.{selector_checks, set_checks, read_checks}
-use Rattle.parts.specs.Step.{header_checks, part_at, step_on, part_step, step_at}
+use Rattle.parts.specs.Step.{Step, Part, End, Refused, header_checks, part_at, step_on, part_step, step_at}
 use Rattle.parts.specs.Load.{Seen, listed_checks as listed_part_checks, part_checks, finish, on_step, load_from, load}
 use Rattle.parts.specs.Save.{save_checks}
-use Rattle.parts.specs.declared.Step.{Step}
-use Rattle.parts.specs.declared.Step.TheVariants.{Part, End, Refused}
 use Rattle.virtqueue.specs.Ring.{Reader, placed_from, card_read, readied, open_queue, in_table, described, chain, head_at, taken, near, walked, fitting, walk}
 use Rattle.virtqueue.specs.declared.Queue.{Queue}
 use Rattle.virtqueue.specs.declared.Descriptor.{Descriptor}

@@ -11,19 +11,16 @@ use lib.Seq.{sets, length-take-le, get_or-take, get_or-drop}
 use borrow.Author.Tests.{eqb-true}
 use Rattle.answer.specs.Tests.{◌and◌, pick}
 use Rattle.answer.specs.Answer.{Answer, done, refused, settle, ◌onward◌, verdict, result_or}
-use Rattle.answer.specs.declared.Verdict.{Verdict}
-use Rattle.answer.specs.declared.Verdict.TheVariants.{Pass, Fail}
+use Rattle.answer.specs.Checks.{Verdict, Pass, Fail}
 use Rattle.answer.proofs.Tests.{and_true}
 use Rattle.answer.proofs.Checks.{never, then_pass, when_pass, unless_pass}
 use Rattle.address.specs.Address.{device_address, memory_address, device_offset, memory_offset}
 use Rattle.address.specs.declared.DeviceAddress.{DeviceAddress}
 use Rattle.wire.specs.Field.{slice}
 use Rattle.wire.proofs.Laws.{sets-all}
-use Rattle.iommu.specs.Table.{type1v2, holds, translate, removed}
+use Rattle.iommu.specs.Table.{Translation, At, Nowhere, type1v2, holds, translate, removed}
 use Rattle.iommu.specs.Requests.{map_checks}
 use Rattle.iommu.specs.declared.Mapping.{Mapping}
-use Rattle.iommu.specs.declared.Translation.{Translation}
-use Rattle.iommu.specs.declared.Translation.TheVariants.{At, Nowhere}
 use Rattle.iommu.proofs.Lookup.{find, located, unless, translate-find, Apart, find-insert, free-find, find-without, without-apart, removed-same, sound-apart}
 use Rattle.memory.specs.Shadow.{initialized, marks, shadow_length}
 use Rattle.memory.specs.Memory.{Memory, edited, byte_at, bytes_from}

@@ -6,10 +6,8 @@ use lib.Dec.{leb}
 use borrow.Author.Tests.{leb-true}
 use Rattle.answer.specs.Tests.{pick}
 use Rattle.answer.specs.Codes.{BadBench, Indirect}
-use Rattle.answer.specs.Checks.{◌then◌, ◌when◌, ◌unless◌, ◌at◌, first_fault}
+use Rattle.answer.specs.Checks.{Verdict, Pass, Fail, ◌then◌, ◌when◌, ◌unless◌, ◌at◌, first_fault}
 use Rattle.answer.specs.Answer.{Answer, done, refused, settle, ◌onward◌, verdict}
-use Rattle.answer.specs.declared.Verdict.{Verdict}
-use Rattle.answer.specs.declared.Verdict.TheVariants.{Pass, Fail}
 use Rattle.assurance.specs.Demand1.{Listed}
 
 pub pass_listed : Listed Pass

@@ -9,18 +9,14 @@ use lib.ListN.{length, get_or, replicate}
 use lib.Seq.{get_or-set_other}
 use borrow.Author.Tests.{eqb-true}
 use Rattle.answer.specs.Tests.{◌and◌, pick}
-use Rattle.answer.specs.Checks.{◌then◌, ◌unless◌}
-use Rattle.answer.specs.declared.Verdict.{Verdict}
-use Rattle.answer.specs.declared.Verdict.TheVariants.{Pass, Fail}
+use Rattle.answer.specs.Checks.{Verdict, Pass, Fail, ◌then◌, ◌unless◌}
 use Rattle.answer.proofs.Tests.{and_true}
 use Rattle.answer.proofs.Checks.{never, then_pass, unless_pass}
 use Rattle.address.specs.Address.{memory_address, device_offset, memory_offset}
 use Rattle.address.specs.declared.DeviceAddress.{DeviceAddress}
 use Rattle.address.specs.declared.MemoryAddress.{MemoryAddress}
-use Rattle.iommu.specs.Table.{translate, sound_table}
+use Rattle.iommu.specs.Table.{Translation, At, Nowhere, translate, sound_table}
 use Rattle.iommu.specs.declared.Mapping.{Mapping}
-use Rattle.iommu.specs.declared.Translation.{Translation}
-use Rattle.iommu.specs.declared.Translation.TheVariants.{At, Nowhere}
 use Rattle.iommu.proofs.Lookup.{translate_bounds}
 use Rattle.bitmap.specs.Bits.{bit, with_bit, bit_of}
 use Rattle.bitmap.proofs.Bits.{bound}

@@ -3,13 +3,10 @@
 use Rattle.std.specs.Prelude.{ℕ, ◌≤◌, ◌≡◌, List, []}
 use Rattle.answer.specs.Codes.{BadBench, Indirect}
 use Rattle.answer.specs.Answer.{refused, verdict}
-use Rattle.answer.specs.declared.Verdict.{Verdict}
-use Rattle.answer.specs.declared.Verdict.TheVariants.{Pass, Fail}
+use Rattle.answer.specs.Checks.{Verdict, Pass, Fail}
 use Rattle.iommu.specs.declared.Mapping.{Mapping}
 use Rattle.memory.specs.Memory.{Memory}
-use Rattle.parts.specs.Step.{step_at}
-use Rattle.parts.specs.declared.Step.{Step}
-use Rattle.parts.specs.declared.Step.TheVariants.{Part, End, Refused}
+use Rattle.parts.specs.Step.{Step, Part, End, Refused, step_at}
 use Rattle.emulator.specs.Machine.{Emulator}
 use Rattle.emulator.specs.Effect.{Effect, after, filled}
 use Rattle.emulator.specs.Calls.{Call, outcome}

@@ -1,6 +1,10 @@
 -- Laws of a single bit of a list.
 use Prim.Native.Nat.{ℕ, zero, suc, ◌/◌, ◌%◌, ◌≤◌, ◌<◌}
+use native.Mathlib.Nat.{not-suc-le-zero}
 use native.Mathlib.Omega.{arith}
+use Rattle.std.specs.List.{fold}
+use Rattle.std.specs.Int.Bits.{bit_and}
+use Rattle.std.proofs.lemmas.Nat.{and_le_l, and_le_r}
 use mathlib.Core.Path.{◌≡◌, refl, ap}
 use mathlib.Core.Bool.{Bool, true, false}
 use mathlib.Core.List.{List, [], ◌∷◌}
@@ -32,3 +36,17 @@ own-bit l a v b h = rw (get_or-set_same l (a / 8) (with_bit (a % 8) v (get_or l 
 -- every other bit stays
 pub other-bit : (l : List ℕ) (a k v : ℕ) → v ≤ 1 → (k ≡ a → ⊥) → bit_of (with_bit_of l a v) k ≡ bit_of l k
 other-bit l a k v b n = kept_at (bit (k % 8)) l (a / 8) (k / 8) _ (λ e. bit-other (k % 8) (a % 8) v _ b (λ f. n (omega arith)))
+
+-- bytes that have 255 in common are 255
+pub common-255 : (a : ℕ) (xs : List ℕ) → a < 256 → ((i : ℕ) → i < length xs → get_or xs i 0 < 256) → fold bit_and a xs ≡ 255
+    → (a ≡ 255) × ((i : ℕ) → i < length xs → get_or xs i 0 ≡ 255)
+common-255 a [] la lx h = (h, λ i lt. absurd (not-suc-le-zero lt))
+common-255 a (x ∷ xs) la lx h = step (common-255 (bit_and a x) xs (omega (arith, and_le_l a x)) (λ i lt. lx (suc i) (omega arith)) h)
+  where
+    each : (bit_and a x ≡ 255) → ((i : ℕ) → i < length xs → get_or xs i 0 ≡ 255) → (i : ℕ) → i < suc (length xs) → get_or (x ∷ xs) i 0 ≡ 255
+    each first rest zero lt = omega (arith, first, and_le_r a x, lx 0 (omega arith))
+    each first rest (suc i) lt = rest i (omega arith)
+
+    step : (bit_and a x ≡ 255) × ((i : ℕ) → i < length xs → get_or xs i 0 ≡ 255)
+        → (a ≡ 255) × ((i : ℕ) → i < suc (length xs) → get_or (x ∷ xs) i 0 ≡ 255)
+    step r = (omega (arith, r.0, and_le_l a x), each r.0 r.1)

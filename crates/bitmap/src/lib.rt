@@ -34,10 +34,8 @@ fn with_bits(x: u8, k: usize, e: usize, v: bool) -> u8
     let low = power(k);
     let high = power(e);
     let kept = x as usize / high * high + x as usize % low;
-    if v {
-        return ((kept + (high - low)) % 256) as u8;
-    }
-    (kept % 256) as u8
+    let run = if v { high - low } else { 0 };
+    ((kept + run) % 256) as u8
 }
 
 // ---- bits of a list of bytes
@@ -47,10 +45,7 @@ fn ones_in_byte(map: &[u8], q: usize, k: usize, e: usize) -> bool
     requires { (e ≤ 8) × (k < e → q < length map.now) }
     ensures { result ≡ true → OnesOf map.now (8 * q + k) (e - k) }
 {
-    if e <= k {
-        return true;
-    }
-    ones(map[q], k, e)
+    e <= k || ones(map[q], k, e)
 }
 
 // Whether all bits of the `c` bytes from `q` on are set. One pass with no way out and no test, which the compiler vectorises.
@@ -58,13 +53,11 @@ fn ones_in_bytes(map: &[u8], q: usize, c: usize) -> bool
     requires { q + c ≤ length map.now }
     ensures { result ≡ true → OnesOf map.now (8 * q) (8 * c) }
 {
-    let mut all: u8 = 255;
-    let mut i: usize = 0;
-    while i < c {
-        all = all & map[q + i];
-        i += 1;
-    }
-    all == 255
+    map[q..q + c]
+        .iter()
+        .copied()
+        .fold(255, |all, byte| all & byte)
+        == 255
 }
 
 // Whether the `n` bits from `a` on are set: the bits in the first and the last one, and whole bytes between.
@@ -77,13 +70,9 @@ pub fn all_ones(map: &[u8], a: usize, n: usize) -> bool
     if first == last {
         return ones_in_byte(map, first, a % 8, (a + n) % 8);
     }
-    if !ones_in_byte(map, first, a % 8, 8) {
-        return false;
-    }
-    if !ones_in_bytes(map, first + 1, last - (first + 1)) {
-        return false;
-    }
-    ones_in_byte(map, last, 0, (a + n) % 8)
+    ones_in_byte(map, first, a % 8, 8)
+        && ones_in_bytes(map, first + 1, last - (first + 1))
+        && ones_in_byte(map, last, 0, (a + n) % 8)
 }
 
 // Whether bit `a` is set.
@@ -107,14 +96,12 @@ pub fn ones_ahead(map: &[u8], a: usize, n: usize) -> usize
     if !ones_in_byte(map, first, a % 8, 8) {
         return 0;
     }
-    let mut q = first + 1;
-    while q < last {
+    for q in first + 1..last {
         if map[q] != 255 {
             return 8 * q - a;
         }
-        q += 1;
     }
-    8 * q - a
+    8 * last - a
 }
 
 // Sets or clears the bits `k` up to `e` of byte `q`.
@@ -134,11 +121,7 @@ fn set_bytes(map: &mut [u8], q: usize, c: usize, v: bool)
     requires { q + c ≤ length map.old }
     ensures { map.new ≡ with_run map.old (8 * q) (8 * c) (pick v 1 0) }
 {
-    if v {
-        wire::fill(map, q, c, 255);
-    } else {
-        wire::fill(map, q, c, 0);
-    }
+    wire::fill(map, q, c, if v { 255 } else { 0 });
 }
 
 // Sets or clears the `n` bits from `a` on.

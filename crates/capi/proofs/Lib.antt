@@ -1,3 +1,1 @@
 mod Answers
-pub mod Calls
-mod Walking

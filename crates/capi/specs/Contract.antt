@@ -1,25 +1,16 @@
 -- What every exported call promises (rule 8.2).
-use Rattle.std.specs.Prelude.{ℕ, ◌+◌, ◌≤◌, ◌≡◌, Bool, true, List, [], length}
-use Rattle.answer.specs.Answer.{Answer, refused}
-use Rattle.answer.specs.declared.Verdict.TheVariants.{Pass, Fail}
+use Rattle.std.specs.Prelude.{ℕ, ◌+◌, ◌≤◌, ◌≡◌, List, [], length}
+use Rattle.answer.specs.Answer.{Answer}
 use Rattle.address.specs.declared.DeviceAddress.{DeviceAddress}
-use Rattle.iommu.specs.Table.{table_of, in_use, first_past}
 use Rattle.iommu.specs.declared.Mapping.{Mapping}
 use Rattle.memory.specs.Memory.{Memory}
-use Rattle.dma.specs.Transfers.{transfer_checks}
-use Rattle.dma.specs.Walk.{fault_of}
-use Rattle.dma.specs.declared.Checked.{Checked}
 use Rattle.wire.specs.Field.{slice}
-use Rattle.emulator.specs.Machine.{machine_of, emulator_of, sound}
-use Rattle.emulator.specs.Requests.{size_checks}
+use Rattle.emulator.specs.Machine.{emulator_of}
 use Rattle.emulator.specs.Effect.{Result}
 use Rattle.emulator.specs.Calls.{Call, look_up, show_line, walk_queue, outcome}
 use Rattle.emulator.specs.Contract.{Meets}
 use Rattle.emulator.specs.declared.State.{State}
 use Rattle.parts.specs.Step.{step_at, value_at}
-use Rattle.vfio.specs.Entries.{entry_of, entry_at}
-use Rattle.vfio.specs.Handlers.{Answered, Replies}
-use Rattle.vfio.specs.declared.Admission.{Admission}
 use Rattle.capi.specs.Structs.{answer_struct, found_struct, line_struct, walked_struct, step_struct}
 use Rattle.capi.specs.declared.Found.{Found}
 use Rattle.capi.specs.declared.Outcome.{Outcome}
@@ -52,32 +43,6 @@ ShowsLine index i s rs r = (m : Memory) → Returns line_struct (show_line index
 -- the walk of a queue, likewise; its buffer is the array of numbers
 abbrev pub WalksQueue : ℕ → ℕ → List ℕ → State → List Mapping → Memory → Walked → List ℕ → Type 0
 WalksQueue queue last ns s rs m r ns' = Returns walked_struct (walk_queue queue last) ns s rs m r ns' m s rs
-
--- an admitted request that maps nothing, in numbers
-pub record Replied (a : Admission) (buf : List ℕ) (r : Outcome) (buf' : List ℕ) : Type 0 where
-  pub answer : Answer Result
-  pub struct : r ≡ answer_struct answer
-  pub answered : Answered a buf answer buf'
-
--- one whose entry is not that of an index
-abbrev pub IsNot : ℕ → Admission → Type 0
-IsNot k a = a.verdict ≡ Pass → a.index ≡ k → ⊥
-
--- one whose buffer has its size, and that finds the machine sound
-abbrev pub Fits : Admission → List ℕ → State → List Mapping → Type 0
-Fits a buf s rs = a.verdict ≡ Pass → (sound (length rs) (machine_of s rs) ≡ true) × (size_checks (entry_at a.index) buf ≡ Pass)
-
--- any: what its entry's request comes to, or the refusal of checks 1 to 4
-pub record Handled (a : Admission) (buf : List ℕ) (s : State) (rs : List Mapping) (r : Outcome) (buf' : List ℕ) (s' : State) (rs' : List Mapping) : Type 0 where
-  pub answer : Answer Result
-  pub struct : r ≡ answer_struct answer
-  pub handled : a.verdict ≡ Pass → Replies (entry_of a.index).request buf s rs answer buf' s' rs'
-  pub not : (code place : ℕ) → a.verdict ≡ Fail code place → (answer ≡ refused code place) × (buf' ≡ buf) × (s' ≡ s) × (rs' ≡ rs)
-
--- the checks of a transfer, where refusal 1 passes
-pub record Judged (write : Bool) (rs : List Mapping) (count : ℕ) (m : Memory) (d : DeviceAddress) (n : ℕ) (c : Checked) : Type 0 where
-  pub checks : c.verdict ≡ transfer_checks (fault_of write m.shadow) (in_use (table_of rs count)) d n
-  pub place : c.first ≡ first_past d (in_use (table_of rs count))
 
 -- A step of the walker at place `p` of the stream `s`: the struct of the step; the bounds that it gives lie in the stream, and between them
 -- stands the value.

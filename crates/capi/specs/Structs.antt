@@ -1,19 +1,13 @@
 -- Answers as C has them (rule 8.11). Each definition gives a struct whole: what an answer has no use for is 0.
-use Rattle.std.specs.Prelude.{ℕ, ◌+◌, ◌-◌, Bool, true, false, not, cond}
+use Rattle.std.specs.Prelude.{ℕ, ◌+◌, ◌-◌, Bool, true, false, not}
 use Rattle.answer.specs.Tests.{flagged}
-use Rattle.answer.specs.Codes.{BadBench}
 use Rattle.answer.specs.Answer.{Answer, done, refused}
 use Rattle.address.specs.Address.{memory_address}
 use Rattle.emulator.specs.Effect.{Result, value, location, line, walked}
-use Rattle.emulator.specs.Contract.{with_registers_in}
-use Rattle.emulator.specs.declared.State.{State}
-use Rattle.parts.specs.Step.{header_size}
-use Rattle.parts.specs.declared.Step.{Step}
-use Rattle.parts.specs.declared.Step.TheVariants.{Part, End, Refused}
+use Rattle.parts.specs.Step.{Step, Part, End, Refused, header_size}
 use Rattle.reader.specs.Read.{next_place}
 use Rattle.capi.specs.declared.Outcome.{Outcome}
 use Rattle.capi.specs.declared.Found.{Found}
-use Rattle.capi.specs.declared.LoadReply.{LoadReply}
 use Rattle.capi.specs.declared.PartStep.{PartStep}
 use Rattle.capi.specs.declared.ShownLine.{ShownLine}
 use Rattle.capi.specs.declared.Walked.{Walked}
@@ -31,10 +25,6 @@ answer_struct (done (location a rights left)) = success 0
 answer_struct (done (line l)) = success 0
 answer_struct (done (walked n index)) = success n
 answer_struct (refused code place) = refusal code place
-
--- a call that is done wherever refusal 1 passes
-abbrev pub done_if : Bool → Outcome
-done_if ok = cond ok (success 0) (refusal BadBench 0)
 
 -- look-up's answer, with how many records it looked at
 abbrev pub found_struct : Answer Result → ℕ → Found
@@ -99,7 +89,3 @@ step_struct p (Part kind flags selector next) =
     }
 step_struct p End = no_part false 0 0 (next_place End p)
 step_struct p (Refused code place) = no_part true code place (next_place (Refused code place) p)
-
--- the state to keep after loading: with the registers that were loaded where it was accepted, else as it was
-abbrev pub kept_by : LoadReply → State → State
-kept_by l s = cond l.outcome.refused s (with_registers_in l.registers s)

@@ -20,10 +20,8 @@ use Rattle.parts.specs.Load.{load}
 use Rattle.parts.specs.Save.{saved}
 use Rattle.parts.specs.RoundTrip.{RoundTrip}
 use Rattle.parts.proofs.RoundTrip.{saved_bounds, round_trips}
-use Rattle.conformance.specs.Saves.{Bytes, IsSave, Begins, Answers, EverySave, CodeSaves, EveryBeginning, EveryBehind, Bounded, Determined, SavesLoad, yes, NumberAnswers}
+use Rattle.conformance.specs.Saves.{Conformance, Save, DiffersAt, Bytes, IsSave, Begins, Answers, EverySave, CodeSaves, EveryBeginning, EveryBehind, Bounded, Determined, SavesLoad, yes, NumberAnswers}
 use Rattle.conformance.proofs.Digits.{bytes_take}
-use Rattle.conformance.specs.declared.Conformance.{Conformance}
-use Rattle.conformance.specs.declared.Conformance.TheVariants.{Save, DiffersAt}
 
 pub every-save : EverySave
 unfolding EverySave Answers

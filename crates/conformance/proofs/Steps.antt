@@ -1,16 +1,17 @@
 -- Laws for the functions of the pass: each way on and out of their loops.
-use Prim.Native.Nat.{ℕ, suc, ◌+◌, ◌%◌, ◌≤◌, ◌<◌}
-use native.Mathlib.Numerals.{add-one}
+use Prim.Native.Nat.{ℕ, suc, zero, ◌+◌, ◌%◌, ◌≤◌, ◌<◌}
 use native.Mathlib.Omega.{arith}
 use mathlib.Core.Path.{◌≡◌, refl, sym, ◌∙◌, ap}
 use mathlib.Core.Bool.{Bool, true, false}
-use mathlib.Core.List.{List, [], ◌++◌}
+use mathlib.Core.List.{List, [], ◌∷◌, ◌++◌}
 use mathlib.Core.Option.{some}
-use mathlib.Core.Logic.{inl, inr}
 use lib.ListN.{length, get_or, take, drop, length-drop, get_or-eq_default}
 use lib.Seq.{get_or-take}
 use lib.Dec.{eqb, leb, ltb}
 use borrow.Author.Tests.{eq-eqb, eqb-true, eqb-false, ltb-true, ltb-false, ne_eqb, leb-true, le-leb}
+use Rattle.std.proofs.Common.{cond}
+use Rattle.std.proofs.Math.ListN.{get_elem?}
+use Rattle.std.specs.List.{zip, prefix_len}
 use Rattle.answer.specs.Tests.{◌and◌, ◌or◌, pick}
 use Rattle.answer.specs.Checks.{passes}
 use Rattle.answer.proofs.Tests.{and_true, and_made, is_false, same_test, below, below_at}
@@ -25,66 +26,57 @@ use Rattle.parts.specs.Step.{header_size}
 use Rattle.parts.specs.Load.{flags_of}
 use Rattle.parts.specs.Save.{encoded}
 use Rattle.conformance.specs.Saves.{Bytes}
-use Rattle.conformance.specs.Bytes.{header, offered_byte, queue_byte, good_byte}
-use Rattle.conformance.specs.Scan.{Common, Good, MostGood, IsWhole, IsBroken, IsAbsent, Finds}
+use Rattle.conformance.specs.Bytes.{header, offered_byte, queue_byte}
+use Rattle.conformance.specs.Scan.{Common, MostGood, IsWhole, IsBroken, IsAbsent, Finds}
 use Rattle.conformance.specs.declared.Part.{Part}
 use Rattle.conformance.specs.declared.Part.TheVariants.{Whole, Broken, Absent}
-use Rattle.conformance.proofs.Lists.{Alike, elem_in, elem_out, alike-last}
+use Rattle.conformance.proofs.Lists.{Alike, elem_in, elem_out}
 use Rattle.conformance.proofs.Digits.{digits_equal, field_bytes_pass, bytes-append, bytes_take, bytes-of}
 use Rattle.conformance.proofs.Values.{good-bytes, byte-local}
 use Rattle.conformance.proofs.Tails.{header-long}
 
 -- ---- the bytes that two lists share
 
--- at the head of the loop
-pub record Shared (a b : List ℕ) (n : ℕ) : Type 0 where
-  pub first : n ≤ length a
-  pub second : n ≤ length b
-  pub alike : Alike a b n
+-- a pair of bytes that are the same
+abbrev pub same : ℕ × ℕ → Bool
+same p = eqb p.0 p.1
 
-pub shared_start : (a b : List ℕ) → Shared a b 0
-shared_start a b = record { first = omega arith; second = omega arith; alike = λ j l. absurd (omega arith) }
+alike-cons : (a b : List ℕ) (x y n : ℕ) → x ≡ y → Alike a b n → Alike (x ∷ a) (y ∷ b) (suc n)
+alike-cons a b x y n e h zero lt = ap some e
+alike-cons a b x y n e h (suc j) lt = h j (omega arith)
 
-module _ (a b : List ℕ) (n : ℕ) (s : Shared a b n) where
-  pub shared-end : length a ≤ n → Common a b n
-  shared-end le = record { first = s.first; second = s.second; alike = s.alike; ends = λ l. absurd (omega arith) }
+common-cons : (a b : List ℕ) (x y n m : ℕ) → x ≡ y → Common a b n → m ≡ suc n → Common (x ∷ a) (y ∷ b) m
+common-cons a b x y n m e c is = rw is (record {
+  first = omega (arith, c.first);
+  second = omega (arith, c.second);
+  alike = alike-cons a b x y n e c.alike;
+  ends = λ l. c.ends (omega arith);
+})
 
-  module _ (lt : n < length a) where
-    pub shared-short : length b ≤ n → Common a b n
-    shared-short le = record {
-      first = s.first;
-      second = s.second;
-      alike = s.alike;
-      ends = λ l e. none≢some (sym (elem_out b n le) ∙ sym e ∙ elem_in a n lt);
-    }
+common_zero : (a b : List ℕ) → (0 < length a → get_elem? a 0 ≡ get_elem? b 0 → ⊥) → Common a b 0
+common_zero a b h = record { first = omega arith; second = omega arith; alike = λ j l. absurd (omega arith); ends = h }
 
-    module _ (lb : n < length b) where
-      pub shared-other : (get_or a n 0 ≡ get_or b n 0 → ⊥) → Common a b n
-      shared-other ne = record {
-        first = s.first;
-        second = s.second;
-        alike = s.alike;
-        ends = λ l e. ne (some_same (sym (elem_in a n lt) ∙ e ∙ elem_in b n lb));
-      }
-
-      pub shared-more : get_or a n 0 ≡ get_or b n 0 → Shared a b (n + 1)
-      shared-more e = record {
-        first = omega arith;
-        second = omega arith;
-        alike = rw add-one (alike-last a b n s.alike (elem_in a n lt ∙ ap some e ∙ sym (elem_in b n lb)));
-      }
+-- they are counted by their pairs, up to the first that differs
+pub shared : (a b : List ℕ) → Common a b (prefix_len same (zip a b))
+shared [] b = common_zero [] b (λ l e. absurd (omega arith))
+shared (x ∷ a) [] = common_zero (x ∷ a) [] (λ l e. none≢some (sym e))
+shared (x ∷ a) (y ∷ b) = go (eqb x y) refl (shared a b)
+  where
+    go : (t : Bool) → eqb x y ≡ t → Common a b (prefix_len same (zip a b)) → Common (x ∷ a) (y ∷ b) (cond t (1 + prefix_len same (zip a b)) 0)
+    go true e r = common-cons a b x y _ _ (eqb-true x y e) r (omega arith)
+    go false e r = common_zero (x ∷ a) (y ∷ b) (λ l h. eqb-false x y e (some_same h))
 
 -- a stream that ends before a row's header, or begins with another byte
 module _ (w i : ℕ) (h : List ℕ) where
   pub none_left : length h ≡ 0 → Common (header w i) h 0
-  none_left e = shared-short (header w i) h 0 (shared_start (header w i) h) (omega (arith, header-long w i)) (omega arith)
+  none_left e = common_zero (header w i) h (λ l f. none≢some (sym (elem_out h 0 (omega arith)) ∙ sym f ∙ elem_in (header w i) 0 l))
 
   first_of : get_or (header w i) 0 0 ≡ kind_of i % 256
   unfolding header encoded bytes_of
   first_of = refl
 
   pub other-first : 0 < length h → (get_or h 0 0 ≡ kind_of i % 256 → ⊥) → Common (header w i) h 0
-  other-first there ne = shared-other (header w i) h 0 (shared_start (header w i) h) (omega (arith, header-long w i)) there (λ e. ne (sym e ∙ first_of))
+  other-first there ne = common_zero (header w i) h (λ l f. ne (some_same (sym (elem_in h 0 there) ∙ sym f ∙ elem_in (header w i) 0 l) ∙ first_of))
 
 pub bytes-header : (w i : ℕ) → Bytes (header w i)
 unfolding header encoded
@@ -142,26 +134,6 @@ none-offered j a b c = go (ltb j 32) refl
     go false e = outside_offered j (ltb-false j 32 e)
 
 -- ---- the good bytes of a value
-
-pub good_start : (w i : ℕ) (v : List ℕ) → Good w i v 0
-good_start w i v = record { size = omega arith; inside = omega arith; each = λ j l. absurd (omega arith) }
-
-module _ (w i : ℕ) (v : List ℕ) (n : ℕ) (g : Good w i v n) where
-  pub good-end : size_of w i ≤ n → MostGood w i v n
-  good-end le = record { good = g; ends = λ l. absurd (omega arith) }
-
-  pub good-short : length v ≤ n → MostGood w i v n
-  good-short le = record { good = g; ends = λ l. inl (omega (arith, g.inside)) }
-
-  pub good_wrong : good_byte i v n ≡ false → MostGood w i v n
-  good_wrong e = record { good = g; ends = λ l. inr e }
-
-  pub good_more : n < size_of w i → n < length v → good_byte i v n ≡ true → Good w i v (n + 1)
-  good_more lt lv e = record { size = omega arith; inside = omega arith; each = λ j l. go j (eqb j n) refl (omega arith) }
-    where
-      go : (j : ℕ) (t : Bool) → eqb j n ≡ t → j < suc n → good_byte i v j ≡ true
-      go j true p l = rw (eqb-true j n p) e
-      go j false p l = g.each j (omega (arith, eqb-false j n p))
 
 -- a value that is good at once
 pub good-whole : (w : ℕ) → w ≤ word_room → (i : ℕ) → i < row_count → (v : List ℕ) → Bytes v → (leb (size_of w i) (length v) and passes (content_checks w (kind_of i) (take (size_of w i) v))) ≡ true → MostGood w i v (size_of w i)

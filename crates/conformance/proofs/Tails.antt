@@ -10,8 +10,7 @@ use lib.Seq.{get_or-set_same, get_or-set_other, length-take-le, take_all, take-a
 use lib.Dec.{eqb}
 use borrow.Author.Tests.{eqb-true, eqb-false, not-true}
 use Rattle.answer.specs.Tests.{◌and◌, ◌or◌, is_some}
-use Rattle.answer.specs.Checks.{passes}
-use Rattle.answer.specs.declared.Verdict.TheVariants.{Pass}
+use Rattle.answer.specs.Checks.{Pass, passes}
 use Rattle.answer.proofs.Tests.{and_true, and_made, or_left, or_false, below, below_at}
 use Rattle.wire.specs.Field.{bytes_of}
 use Rattle.registers.specs.Cards.{word_room}

@@ -14,7 +14,7 @@ use lib.Bits.{bit_and, and_zero_l}
 use lib.Pow.{pow_pos}
 use borrow.Author.Tests.{eq-eqb, eqb-true, eqb-false, ne_eqb, leb-true, le-leb, ltb-true, ltb-false, lt-ltb, le-ltb}
 use Rattle.answer.specs.Tests.{◌and◌, ◌or◌, pick}
-use Rattle.answer.specs.declared.Verdict.TheVariants.{Pass}
+use Rattle.answer.specs.Checks.{Pass}
 use Rattle.answer.proofs.Tests.{and_true, and_made, or_left, pick_true, pick_false, below}
 use Rattle.answer.proofs.Checks.{unless_pass, unless_true}
 use Rattle.wire.specs.Field.{field}

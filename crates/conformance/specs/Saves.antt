@@ -1,6 +1,6 @@
 -- Whether a stream is what saving writes (rules 5.22 to 5.24), by existence: nothing here says how it is found out. `w` is the number of
 -- words that the card has of features.
-use Rattle.std.specs.Prelude.{ℕ, ◌+◌, ◌-◌, ◌*◌, ◌^◌, ◌≤◌, ◌<◌, ◌≡◌, true, false, List, [], ◌++◌, ◌⊎◌, length, get_or, take}
+use Rattle.std.specs.Prelude.{ℕ, ◌+◌, ◌-◌, ◌*◌, ◌^◌, ◌≤◌, ◌<◌, ◌≡◌, true, false, List, [], ◌++◌, ◌⊎◌, length, get_or, take, Result, Ok, Err}
 use Rattle.std.proofs.Math.Option.{none}
 use Rattle.answer.specs.Answer.{done}
 use Rattle.registers.specs.Cards.{is_card}
@@ -9,8 +9,6 @@ use Rattle.registers.specs.declared.Registers.{Registers}
 use Rattle.registers.specs.Access.{or_empty}
 use Rattle.parts.specs.Load.{load}
 use Rattle.parts.specs.Save.{saved}
-use Rattle.conformance.specs.declared.Conformance.{Conformance}
-use Rattle.conformance.specs.declared.Conformance.TheVariants.{Save, DiffersAt}
 
 -- each element is a byte
 abbrev pub Bytes : List ℕ → Type 0
@@ -41,10 +39,19 @@ pub record Longest (w k : ℕ) (s : List ℕ) : Type 0 where
   pub reached : Begins w k s
   pub most : (n : ℕ) → Begins w n s → n ≤ k
 
--- rules 5.22 and 5.23: the answer
+-- rules 5.22 and 5.23: the answer, that the stream is a save or how far some save agrees with it
+pub data Conformance : Type 0 where
+  Save : Conformance
+  DiffersAt : ℕ → Conformance
+
 unfoldable pub Answers : ℕ → List ℕ → Conformance → Type 0
 Answers w s Save = IsSave w s
 Answers w s (DiffersAt k) = Longest w k s
+
+-- the answer that a result of the code tells
+abbrev pub conformance_of : {R : Type 0} → Result R ℕ → Conformance
+conformance_of (Ok result) = Save
+conformance_of (Err k) = DiffersAt k
 
 -- rule 5.24: the answer as C's number: this one says yes, any other is the length
 abbrev pub yes : ℕ

@@ -1,37 +1,31 @@
 -- Laws of appending: the bytes in use, the checks of a record, and where its REGION lies.
-use Prim.Native.Nat.{ℕ, ◌+◌, ◌≤◌, ◌<◌}
+use Prim.Native.Nat.{ℕ, ◌+◌, ◌-◌, ◌≤◌}
 use native.Mathlib.Omega.{arith}
-use mathlib.Core.Path.{◌≡◌, refl, sym, ◌∙◌, ap}
-use mathlib.Core.Bool.{true, false, not, true≢false}
+use mathlib.Core.Path.{◌≡◌, refl, sym, ◌∙◌}
+use mathlib.Core.Bool.{Bool, true, false, not, true≢false}
 use mathlib.Core.List.{List}
 use mathlib.Core.Option.{Option, none, some}
 use lib.ListN.{length, take}
+use lib.Dec.{ltb}
 use lib.Seq.{get_or-take, length-take-le}
-use borrow.Author.Tests.{ltb-false, le-ltb, lt-ltb}
+use borrow.Author.Tests.{ltb-true, ltb-false, le-ltb, lt-ltb}
 use Rattle.answer.specs.Tests.{◌and◌, is_some}
-use Rattle.answer.specs.Codes.{TooLong, Truncated}
-use Rattle.answer.specs.Checks.{◌then◌, ◌when◌, ◌unless◌}
+use Rattle.answer.proofs.Tests.{same_test}
+use Rattle.answer.specs.Codes.{Header, UnknownPart, Value, NoSpace}
+use Rattle.answer.specs.Checks.{Pass, Fail, ◌then◌, ◌when◌, ◌unless◌}
 use Rattle.answer.specs.Limits.{transfer_limit, length_check}
 use Rattle.answer.specs.Answer.{done, refused, settle, ◌onward◌}
-use Rattle.answer.specs.declared.Verdict.TheVariants.{Pass}
 use Rattle.answer.proofs.Checks.{then_pass, when_pass, unless_pass}
 use Rattle.wire.specs.Field.{field}
 use Rattle.wire.proofs.Laws.{field_cong}
 use Rattle.device_file.specs.Layout.{header_size, is_type, is_sub, valid_content}
 use Rattle.device_file.specs.Read.{File, read_file}
 use Rattle.device_file.specs.Write.{Written, last_region, record_length, bare_fits, append_checks, appended, append_to, used_checks, read_used, append_record}
-use Rattle.device_file.specs.Scan.{or_zero, HasRoom}
+use Rattle.device_file.specs.Scan.{option_of, HasRoom}
+use Rattle.device_file.proofs.Scanning.{placed}
 use Rattle.device_file.proofs.Reading.{onward-done, settle-done, IsFile, file-read, Holds, last-holds}
 
 -- ---- the bytes in use
-
-pub used-long : (buf : List ℕ) (used : ℕ) → transfer_limit < length buf → read_used buf used ≡ refused TooLong 0
-unfolding read_used used_checks length_check settle ◌onward◌ ◌then◌ ◌when◌
-used-long buf used h = rw (lt-ltb _ _ h)
-
-pub used-past : (buf : List ℕ) (used : ℕ) → length buf ≤ transfer_limit → length buf < used → read_used buf used ≡ refused Truncated 0
-unfolding read_used used_checks length_check settle ◌onward◌ ◌then◌ ◌when◌
-used-past buf used h past = rw (le-ltb _ _ h, lt-ltb _ _ past)
 
 pub used-read : (buf : List ℕ) (used : ℕ) → length buf ≤ transfer_limit → used ≤ length buf → read_used buf used ≡ read_file (take used buf)
 unfolding read_used used_checks length_check settle ◌onward◌ ◌then◌ ◌when◌
@@ -53,6 +47,10 @@ used-is buf used file h =
 
 -- ---- the answer
 
+pub used-fault : (buf : List ℕ) (used t : ℕ) (v : List ℕ) (code place : ℕ) → Fail code place ≡ used_checks (length buf) used → refused code place ≡ append_record buf used t v
+unfolding append_record read_used settle ◌onward◌
+used-fault buf used t v code place e = rw (← e)
+
 pub append-refused : (buf : List ℕ) (used t : ℕ) (v : List ℕ) (code place : ℕ) → read_used buf used ≡ refused code place → append_record buf used t v ≡ refused code place
 unfolding append_record ◌onward◌
 append-refused buf used t v code place e = rw e
@@ -70,6 +68,19 @@ pub record Fit (room used : ℕ) (region : Option ℕ) (t : ℕ) (v : List ℕ) 
   pub size : bare_fits t (record_length v) ≡ true
   pub valid : valid_content t v ≡ true
   pub ends : used + record_length v ≤ room
+
+-- as the code makes them: lengths are compared with what is left, so that no sum can wrap
+pub checks_read : (room used : ℕ) (region : Option ℕ) (t n : ℕ) (v : List ℕ) (b : Bool) → used ≤ room → n ≡ record_length v → b ≡ (is_sub t and not (is_some region))
+    → append_checks room used region t v
+    ≡ (UnknownPart unless is_type t
+    then Header when b
+    then Value unless bare_fits t n
+    then Value unless valid_content t v
+    then NoSpace when ltb (room - used) n)
+unfolding append_checks
+checks_read room used region t n v b h e f =
+    let room_is : ltb room (used + n) ≡ ltb (room - used) n = same_test _ _ (λ p. let q = ltb-true _ _ p in lt-ltb _ _ (omega arith)) (λ p. let q = ltb-true _ _ p in lt-ltb _ _ (omega arith)) in
+    rw (f, ← e, room_is)
 
 module _ (room used : ℕ) (region : Option ℕ) (t : ℕ) (v : List ℕ) where
   pub fit : append_checks room used region t v ≡ Pass → Fit room used region t v
@@ -115,17 +126,15 @@ module _ (buf : List ℕ) (used : ℕ) (file : File) (u : Used buf used file) wh
   pub region-used : (g : ℕ) → last_region file.records none ≡ some g → Holds (take used buf) header_size g
   region-used g e = last-holds (take used buf) file g used-file e
 
-  pub has_room : (t : ℕ) (v : List ℕ) → Fit (length buf) used (last_region file.records none) t v → HasRoom buf used (or_zero (last_region file.records none)) t v
-  unfolding or_zero
+  pub has_room : (t : ℕ) (v : List ℕ) → Fit (length buf) used (last_region file.records none) t v → HasRoom buf used (placed (last_region file.records none)) t v
+  unfolding option_of
   has_room t v f = record {
     room = f.ends;
     small = u.small;
     grows = λ sub.
         let x = has_region (length buf) used _ t v f sub in
         let h = region-used x.0 x.1 in
-        let g : or_zero (last_region file.records none) ≡ x.0 = ap or_zero x.1 in
-        rw g (
-          omega (arith, h.from),
+        rw x.1 (
           omega (arith, h.fixed, used-length, u.inside),
           omega (arith, field-take buf used (x.0 + 4) 4 (omega (arith, h.fixed, used-length)), h.inside, used-length, u.inside, u.small),
         );

@@ -6,8 +6,7 @@ use mathlib.Core.List.{List, ◌++◌}
 use mathlib.Core.Option.{Option, none, some}
 use lib.ListN.{length, take}
 use Rattle.answer.specs.Answer.{Answer, done, refused, settle}
-use Rattle.answer.specs.declared.Verdict.{Verdict}
-use Rattle.answer.specs.declared.Verdict.TheVariants.{Pass, Fail}
+use Rattle.answer.specs.Checks.{Verdict, Pass, Fail}
 use Rattle.wire.specs.Field.{bytes_of}
 use Rattle.device_file.specs.Layout.{header_size, prefix_size}
 use Rattle.device_file.specs.Read.{File}

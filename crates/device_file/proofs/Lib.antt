@@ -1,4 +1,6 @@
 pub mod Records
+pub mod Types
+pub mod Refusals
 pub mod Scanning
 pub mod Reading
 pub mod Handing

@@ -11,8 +11,7 @@ use lib.Dec.{eqb}
 use borrow.Author.Tests.{eqb-true}
 use Rattle.answer.specs.Tests.{pick}
 use Rattle.answer.specs.Answer.{Answer, done, refused, settle, ◌onward◌}
-use Rattle.answer.specs.declared.Verdict.{Verdict}
-use Rattle.answer.specs.declared.Verdict.TheVariants.{Pass, Fail}
+use Rattle.answer.specs.Checks.{Verdict, Pass, Fail}
 use Rattle.device_file.specs.Layout.{header_size, Region, is_sub, prefix_size, region_size}
 use Rattle.device_file.specs.Read.{Record, File, type_at, length_at, record_fault, own_length, record_at, region_end, at_end, records_from, header_checks, file_of, read_file, nth}
 use Rattle.device_file.specs.Write.{last_region}

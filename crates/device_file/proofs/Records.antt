@@ -1,29 +1,21 @@
 -- Laws of one record: what its checks tell, how long it is, and where it ends.
 use Prim.Native.Nat.{ℕ, ◌+◌, ◌-◌, ◌≤◌, ◌<◌}
-use native.Mathlib.Nat.{add-zero}
 use native.Mathlib.Omega.{arith}
 use mathlib.Core.Path.{◌≡◌, refl, sym, ◌∙◌, ap}
 use mathlib.Core.Bool.{Bool, true, false, not, true≢false}
-use mathlib.Core.List.{List, [], ◌∷◌}
-use lib.ListN.{length, drop, get_or-eq_default}
-use lib.Seq.{get_or-take}
+use mathlib.Core.List.{List}
+use lib.ListN.{length}
 use lib.Dec.{leb, ltb, eqb}
 use borrow.Author.Tests.{leb-true, ltb-true, ltb-false, eqb-true, le-leb, le-ltb, lt-ltb, ne_eqb, not-true}
 use Rattle.answer.specs.Tests.{◌and◌, ◌or◌, pick}
-use Rattle.answer.specs.Checks.{◌then◌, ◌when◌, ◌unless◌, ◌at◌}
-use Rattle.answer.specs.declared.Verdict.TheVariants.{Pass}
+use Rattle.answer.specs.Checks.{Pass, ◌then◌, ◌when◌, ◌unless◌, ◌at◌}
 use Rattle.answer.proofs.Tests.{and_true, below, below_at}
 use Rattle.answer.proofs.Checks.{then_pass, when_pass, unless_pass, at_pass}
-use Rattle.wire.specs.Field.{field, slice}
-use Rattle.wire.proofs.Laws.{field_cong, field-drop}
+use Rattle.wire.specs.Field.{slice}
 use Rattle.device_file.specs.Layout.{Region, DtPath, DtIndex, Interrupt, is_type, is_sub, prefix_size, region_size, least_length, fits, valid_content}
 use Rattle.device_file.specs.Read.{in_region, room_end, type_at, length_at, at_level, record_checks, record_fault, own_length, region_end}
 
 -- ---- lengths and content of a type
-
-pub no_length : (t : ℕ) → 7 < t → 0 ≡ least_length t
-unfolding least_length
-no_length t h = sym (get_or-eq_default (0 ∷ region_size ∷ prefix_size ∷ 16 ∷ 16 ∷ 12 ∷ 16 ∷ 20 ∷ []) 0 {n = t} h)
 
 pub fits-least : (t n : ℕ) → fits t n ≡ true → least_length t ≤ n
 unfolding fits pick
@@ -53,22 +45,6 @@ pub least-length : (t : ℕ) → is_type t ≡ true → prefix_size ≤ least_le
 unfolding is_type long_enough ◌or◌
 least-length t h =
     leb-true _ _ (ap (λ (b : Bool). not b or leb prefix_size (least_length t)) (sym h) ∙ long-enough t (leb-true t 7 (and_true _ _ h).1))
-
--- the property of an index stands in the first bytes of its content
-pub valid-part : (t : ℕ) (s : List ℕ) (p n : ℕ) → (t ≡ DtIndex → 4 ≤ n) → valid_content t (slice s p n) ≡ valid_content t (drop p s)
-unfolding valid_content pick
-valid-part t s p n h = go (eqb t DtIndex) refl
-  where
-    go : (b : Bool) → eqb t DtIndex ≡ b
-        → pick b (leb 1 (field (slice s p n) 0 4) and leb (field (slice s p n) 0 4) 4) true ≡ pick b (leb 1 (field (drop p s) 0 4) and leb (field (drop p s) 0 4) 4) true
-    go true e =
-        let room = h (eqb-true t DtIndex e) in
-        rw (field_cong (slice s p n) (drop p s) 0 4 (λ i lt. get_or-take n (drop p s) (0 + i) 0 (omega arith)))
-    go false e = refl
-
-pub valid-at : (t : ℕ) (s : List ℕ) (p : ℕ) → t ≡ DtIndex → (leb 1 (field s p 4) and leb (field s p 4) 4) ≡ valid_content t (drop p s)
-unfolding valid_content pick
-valid-at t s p e = rw (e, field-drop s p 0 4, add-zero p)
 
 pub valid-other : (t : ℕ) (v : List ℕ) → eqb t DtIndex ≡ false → true ≡ valid_content t v
 unfolding valid_content pick
@@ -195,9 +171,6 @@ module _ (s : List ℕ) (p e : ℕ) (g : Good s p e) where
   module _ (h : e ≤ length s) where
     pub own-inside : p + own_length s p ≤ length s
     own-inside = omega (arith, own, g.within, room-inside s p e h)
-
-    pub prefix-inside : p + prefix_size ≤ length s
-    prefix-inside = omega (arith, g.prefix, room-inside s p e h)
 
     pub region-inside : region_end s p e ≤ length s
     unfolding region_end pick

@@ -1,47 +1,36 @@
 -- Laws of the writer: its checks, and the bytes that it writes.
-use Prim.Native.Nat.{ℕ, ◌+◌, ◌≤◌, ◌<◌}
+use Prim.Native.Nat.{ℕ, ◌+◌, ◌≤◌}
 use native.Mathlib.Omega.{arith}
-use mathlib.Core.Path.{◌≡◌, refl, sym}
-use mathlib.Core.Bool.{Bool, true, false, not, ◌&&◌}
+use mathlib.Core.Path.{◌≡◌, refl}
+use mathlib.Core.Bool.{Bool, true, false, not, false≢true, true≢false}
 use mathlib.Core.List.{List, ◌++◌}
 use mathlib.Core.Option.{Option, none, some}
 use lib.ListN.{length}
 use lib.Seq.{sets, length-sets, take-length}
 use lib.Dec.{eqb}
-use borrow.Author.Tests.{eqb-true, ne_eqb, ltb-false, le-ltb, le-leb}
-use Rattle.answer.specs.Tests.{◌and◌, ◌or◌, pick, is_some}
-use Rattle.answer.specs.Checks.{◌then◌, ◌when◌, ◌unless◌}
+use borrow.Author.Tests.{eqb-true, ltb-false, le-ltb, le-leb}
+use Rattle.answer.specs.Tests.{◌or◌, pick, is_some}
+use Rattle.std.proofs.Common.{Option as CodeOption, Some, None, is_some as holds_some}
+use Rattle.answer.specs.Checks.{Pass, ◌then◌, ◌when◌, ◌unless◌}
 use Rattle.answer.specs.Limits.{transfer_limit, length_check}
-use Rattle.answer.specs.Answer.{Answer, done, refused, settle}
-use Rattle.answer.specs.declared.Verdict.{Verdict}
-use Rattle.answer.specs.declared.Verdict.TheVariants.{Pass, Fail}
-use Rattle.answer.proofs.Tests.{both_and}
+use Rattle.answer.specs.Answer.{Answer, done, refused, ◌onward◌}
 use Rattle.answer.proofs.Checks.{then_pass, when_pass, unless_pass}
 use Rattle.wire.specs.Field.{bytes_of, slice}
 use Rattle.wire.proofs.Laws.{sets_then}
 use Rattle.device_file.specs.Layout.{header_size, is_magic, Region, is_sub, region_size, least_length, fits}
 use Rattle.device_file.specs.Read.{length_at}
 use Rattle.device_file.specs.Write.{Written, start_checks, started, record_length, bare_fits, grown, encoded}
-use Rattle.device_file.specs.Scan.{or_none, reply_of, left_by, Writes}
-use Rattle.device_file.specs.declared.Written.{Written as Reply}
+use Rattle.device_file.specs.Scan.{option_in, reply_of, left_by, Writes}
 
 -- ---- answers
 
-pub writes-refused : (buf : List ℕ) (a : Answer Written) (code place : ℕ) (r : Reply) → a ≡ refused code place → r ≡ reply_of (refused code place) → Writes buf a r buf
-unfolding left_by
-writes-refused buf a code place r e f = record { answer = rw e f; buffer = rw e refl }
+pub writes-refused : (buf : List ℕ) (a : Answer Written) (code place : ℕ) → refused code place ≡ a → Writes buf a (refused code place) buf
+unfolding reply_of left_by ◌onward◌
+writes-refused buf a code place e = rw (← e) (record { answer = refl; buffer = refl })
 
-pub writes-done : (buf : List ℕ) (a : Answer Written) (w : Written) (buf' : List ℕ) → a ≡ done w → buf' ≡ w.buffer → Writes buf a record { verdict = Pass; used = w.used } buf'
-unfolding left_by reply_of
-writes-done buf a w buf' e f = record { answer = rw e refl; buffer = rw e f }
-
-pub settle_fail : {A : Type 0} (v : Verdict) (x : A) (code place : ℕ) → Fail code place ≡ v → settle v x ≡ refused code place
-unfolding settle
-settle_fail v x code place e = rw (← e)
-
-pub settle_pass : {A : Type 0} (v : Verdict) (x : A) → v ≡ Pass → settle v x ≡ done x
-unfolding settle
-settle_pass v x e = rw e
+pub writes-done : (buf : List ℕ) (a : Answer Written) (w : Written) (buf' : List ℕ) → done w ≡ a → buf' ≡ w.buffer → Writes buf a (done w.used) buf'
+unfolding reply_of left_by ◌onward◌
+writes-done buf a w buf' e f = rw (← e) (record { answer = refl; buffer = f })
 
 -- ---- starting a file
 
@@ -64,17 +53,13 @@ put-header l magic version flags = refl
 
 -- ---- the checks of a record
 
-pub no_region : (g : ℕ) → eqb g 0 ≡ not (is_some (or_none g))
-unfolding or_none is_some pick
-no_region g = go (eqb g 0)
-  where
-    go : (b : Bool) → b ≡ not (is_some (pick b none (some g)))
-    go true = refl
-    go false = refl
-
 -- the code's test of a sub-record that has no REGION
-pub alone : (t g : ℕ) {r : Bool} → r ≡ is_sub t → (r && eqb g 0) ≡ (is_sub t and not (is_some (or_none g)))
-alone t g e = rw (e, no_region g) (both_and _ _)
+pub no_region : (region : CodeOption ℕ) (none : Bool) → holds_some region ≡ not none → none ≡ not (is_some (option_in region))
+unfolding option_in is_some
+no_region None true h = refl
+no_region None false h = absurd (false≢true h)
+no_region (Some g) true h = absurd (true≢false h)
+no_region (Some g) false h = refl
 
 -- a bare record's length is one that its type may have
 pub bare_fits_lem : (t n : ℕ) → bare_fits t n ≡ true → fits t n ≡ true
@@ -90,10 +75,6 @@ bare_fits_lem t n = go (eqb t Region) refl
 pub grown-some : (buf : List ℕ) (g t n : ℕ) → is_sub t ≡ true → grown buf (some g) t n ≡ sets buf (g + 4) (bytes_of 4 (length_at buf g + n))
 unfolding grown pick
 grown-some buf g t n e = rw e
-
-pub grown-sub : (buf : List ℕ) (g t n : ℕ) → is_sub t ≡ true → 0 < g → sets buf (g + 4) (bytes_of 4 (length_at buf g + n)) ≡ grown buf (or_none g) t n
-unfolding or_none pick
-grown-sub buf g t n e pos = rw (ne_eqb g 0 (λ h. omega arith)) (sym (grown-some buf g t n e))
 
 pub grown-none : (buf : List ℕ) (region : Option ℕ) (t n : ℕ) → is_sub t ≡ false → buf ≡ grown buf region t n
 unfolding grown pick

@@ -3,10 +3,9 @@ use Rattle.std.specs.Prelude.{ℕ, zero, suc, ◌+◌, ◌-◌, Bool, false, not
 use Rattle.std.proofs.Math.Option.{Option, none, some}
 use Rattle.answer.specs.Tests.{pick}
 use Rattle.answer.specs.Codes.{Truncated, Header, UnknownPart, Value, Magic}
-use Rattle.answer.specs.Checks.{◌then◌, ◌when◌, ◌unless◌, ◌at◌}
+use Rattle.answer.specs.Checks.{Verdict, ◌then◌, ◌when◌, ◌unless◌, ◌at◌}
 use Rattle.answer.specs.Limits.{length_check}
 use Rattle.answer.specs.Answer.{Answer, done, settle, ◌onward◌}
-use Rattle.answer.specs.declared.Verdict.{Verdict}
 use Rattle.wire.specs.Field.{field, slice}
 use Rattle.device_file.specs.Layout.{header_size, is_magic, Region, is_type, is_sub, prefix_size, region_size, fits, valid_content}
 

@@ -4,10 +4,9 @@ use Rattle.std.proofs.Math.Option.{Option, none, some}
 use Rattle.std.proofs.lemmas.List.Edits.{sets}
 use Rattle.answer.specs.Tests.{◌and◌, pick, is_some}
 use Rattle.answer.specs.Codes.{Truncated, Header, UnknownPart, Value, NoSpace, Magic}
-use Rattle.answer.specs.Checks.{◌then◌, ◌when◌, ◌unless◌}
+use Rattle.answer.specs.Checks.{Verdict, ◌then◌, ◌when◌, ◌unless◌}
 use Rattle.answer.specs.Limits.{length_check}
 use Rattle.answer.specs.Answer.{Answer, settle, ◌onward◌}
-use Rattle.answer.specs.declared.Verdict.{Verdict}
 use Rattle.wire.specs.Field.{bytes_of}
 use Rattle.device_file.specs.Layout.{header_size, is_magic, Region, is_type, is_sub, prefix_size, region_size, fits, valid_content}
 use Rattle.device_file.specs.Read.{Record, File, length_at, read_file}

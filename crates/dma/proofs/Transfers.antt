@@ -1,5 +1,5 @@
 -- Laws of device transfers: what an accepted one has passed, and gather and scatter over a run and over runs one behind the other.
-use Prim.Native.Nat.{ℕ, zero, suc, ◌+◌, ◌-◌, ◌/◌, ◌%◌, ◌≤◌, ◌<◌}
+use Prim.Native.Nat.{ℕ, zero, suc, ◌+◌, ◌-◌, ◌≤◌, ◌<◌}
 use native.Mathlib.Nat.{add-zero}
 use native.Mathlib.Numerals.{add-one}
 use native.Mathlib.Omega.{arith}
@@ -8,22 +8,18 @@ use mathlib.Core.Bool.{Bool, true, false}
 use mathlib.Core.List.{List, [], ◌∷◌, ◌++◌}
 use lib.ListN.{length, get_or, drop, take-append-drop}
 use lib.Seq.{sets, drop-cons, drop-drop}
-use borrow.Author.Tests.{le-ltb, le-leb, leb-true, eq-eqb, ne_eqb}
+use borrow.Author.Tests.{le-ltb, le-leb, leb-true}
 use Rattle.answer.specs.Tests.{pick}
 use Rattle.answer.specs.Codes.{Unmapped, NoRight}
-use Rattle.answer.specs.Checks.{first_fault}
+use Rattle.answer.specs.Checks.{Verdict, Pass, Fail, ◌then◌, ◌unless◌, first_fault}
 use Rattle.answer.specs.Limits.{transfer_limit, length_check}
-use Rattle.answer.specs.declared.Verdict.{Verdict}
-use Rattle.answer.specs.declared.Verdict.TheVariants.{Pass, Fail}
-use Rattle.answer.proofs.Checks.{never, then_pass, then_next, then_fail, when_false, unless_pass, unless_true, unless_false, first_fault-all, first_fault_pass, first_fault-at, first_fault_cong}
+use Rattle.answer.proofs.Checks.{never, then_pass, then_next, when_false, unless_pass, unless_true, first_fault-all, first_fault_pass, first_fault-at}
 use Rattle.wire.specs.Field.{slice}
 use Rattle.wire.proofs.Laws.{sets-append, length_part}
 use Rattle.address.specs.Address.{device_limit, memory_address, memory_offset, device_offset, in_device_range}
 use Rattle.address.specs.declared.DeviceAddress.{DeviceAddress}
-use Rattle.iommu.specs.Table.{translate, mapped, readable, writable}
+use Rattle.iommu.specs.Table.{Translation, At, Nowhere, translate, mapped, readable, writable}
 use Rattle.iommu.specs.declared.Mapping.{Mapping}
-use Rattle.iommu.specs.declared.Translation.{Translation}
-use Rattle.iommu.specs.declared.Translation.TheVariants.{At, Nowhere}
 use Rattle.memory.specs.Memory.{Memory, Edit, put, edited, stores, byte_at}
 use Rattle.memory.specs.Shadow.{Shadow, packed}
 use Rattle.memory.specs.Transfers.{unwritten_in}
@@ -49,34 +45,26 @@ unfolding mapped
 fault-mapped write shadow (At a rights left) h = refl
 fault-mapped write shadow Nowhere h = never Unmapped 0 (sym (fault-nowhere write shadow) ∙ h)
 
--- ---- the first fault of a run, which a mapping shows with these rights
+-- ---- the first fault of a run: the rights are those of each of its bytes, and so judged once
 
-module _ (write : Bool) (shadow : Shadow) (a n rights left : ℕ) where
-  no_right : pick write (writable rights) (readable rights) ≡ false → 0 < n → first_fault (run_fault write shadow a rights left) n ≡ Fail NoRight 0
-  unfolding fault_of pick read_fault write_fault
-  no_right h some = first_fault-at (run_fault write shadow a rights left) n 0 NoRight 0 some (λ i l. absurd (omega arith)) (go write h)
-    where
-      go : (w : Bool) → pick w (writable rights) (readable rights) ≡ false → run_fault w shadow a rights left 0 ≡ Fail NoRight 0
-      go true e = unless_false _ _ e
-      go false e = then_fail _ _ _ _ (unless_false _ _ e)
+guarded : (t : Bool) (f : ℕ → Verdict) (n : ℕ) → 0 < n → first_fault (λ i. NoRight unless t then f i) n ≡ (NoRight unless t then first_fault f n)
+unfolding ◌then◌ ◌unless◌
+guarded true f n some = refl
+guarded false f n some = first_fault-at _ n 0 NoRight 0 some (λ i l. absurd (omega arith)) refl
 
-  module _ (is : write ≡ true) where
-    pub write_no_right : (rights / 2 % 2 ≡ 1 → ⊥) → 0 < n → first_fault (run_fault write shadow a rights left) n ≡ Fail NoRight 0
-    unfolding pick writable
-    write_no_right h = no_right (rw is (ne_eqb _ _ h))
+unguarded : (t : Bool) (n : ℕ) → 0 < n → first_fault (λ i. NoRight unless t) n ≡ (NoRight unless t)
+unfolding ◌unless◌
+unguarded true n some = first_fault_pass _ n (λ i l. refl)
+unguarded false n some = first_fault-at _ n 0 NoRight 0 some (λ i l. absurd (omega arith)) refl
 
-    pub write-passes : rights / 2 % 2 ≡ 1 → first_fault (run_fault write shadow a rights left) n ≡ Pass
-    unfolding fault_of pick write_fault writable
-    write-passes h = rw is (first_fault_pass (run_fault true shadow a rights left) n (λ i l. unless_true _ _ (eq-eqb _ _ h)))
+module _ (write : Bool) (shadow : Shadow) (a n rights left : ℕ) (some : 0 < n) where
+  pub written-fault : write ≡ true → first_fault (run_fault write shadow a rights left) n ≡ (NoRight unless writable rights)
+  unfolding fault_of pick write_fault
+  written-fault is = rw is (unguarded (writable rights) n some)
 
-  module _ (is : write ≡ false) where
-    pub read_no_right : (rights % 2 ≡ 1 → ⊥) → 0 < n → first_fault (run_fault write shadow a rights left) n ≡ Fail NoRight 0
-    unfolding pick readable
-    read_no_right h = no_right (rw is (ne_eqb _ _ h))
-
-    pub read-written : rights % 2 ≡ 1 → first_fault (run_fault write shadow a rights left) n ≡ unwritten_in shadow (memory_address a) n
-    unfolding fault_of pick read_fault readable unwritten_in
-    read-written h = rw is (first_fault_cong (run_fault false shadow a rights left) _ n (λ i l. then_next _ _ (unless_true _ _ (eq-eqb _ _ h))))
+  pub read-fault : write ≡ false → first_fault (run_fault write shadow a rights left) n ≡ (NoRight unless readable rights then unwritten_in shadow (memory_address a) n)
+  unfolding fault_of pick read_fault unwritten_in
+  read-fault is = rw is (guarded (readable rights) _ n some)
 
 -- ---- checks
 

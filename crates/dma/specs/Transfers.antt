@@ -1,17 +1,13 @@
 -- Device reads and writes, offset by offset (rules 4.3 to 4.6).
 use Rattle.std.specs.Prelude.{ℕ, zero, suc, List, [], ◌∷◌}
 use Rattle.answer.specs.Codes.{Range, Unmapped, NoRight}
-use Rattle.answer.specs.Checks.{◌then◌, ◌unless◌, first_fault}
+use Rattle.answer.specs.Checks.{Verdict, Fail, ◌then◌, ◌unless◌, first_fault}
 use Rattle.answer.specs.Limits.{length_check}
-use Rattle.answer.specs.declared.Verdict.{Verdict}
-use Rattle.answer.specs.declared.Verdict.TheVariants.{Fail}
 use Rattle.address.specs.Address.{memory_address, device_offset, in_device_range}
 use Rattle.address.specs.declared.DeviceAddress.{DeviceAddress}
 use Rattle.address.specs.declared.MemoryAddress.{MemoryAddress}
-use Rattle.iommu.specs.Table.{translate, readable, writable}
+use Rattle.iommu.specs.Table.{Translation, At, Nowhere, translate, readable, writable}
 use Rattle.iommu.specs.declared.Mapping.{Mapping}
-use Rattle.iommu.specs.declared.Translation.{Translation}
-use Rattle.iommu.specs.declared.Translation.TheVariants.{At, Nowhere}
 use Rattle.memory.specs.Shadow.{Shadow}
 use Rattle.memory.specs.Memory.{Memory, Edit, put, byte_at}
 use Rattle.memory.specs.Transfers.{unwritten_at}

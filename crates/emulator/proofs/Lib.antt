@@ -1,11 +1,7 @@
 pub mod Meets
 pub mod Soundness
 pub mod PowerOn
-pub mod Running
-pub mod HostTransfers
-pub mod DeviceTransfers
-pub mod StateCalls
+pub mod Locating
 pub mod Walking
-pub mod PartCalls
 pub mod Returned
 pub mod SameMarks

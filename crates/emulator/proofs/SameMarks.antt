@@ -6,17 +6,14 @@ use mathlib.Core.List.{List, ◌∷◌}
 use mathlib.Core.Option.{Option, some, none}
 use lib.ListN.{length}
 use Rattle.answer.specs.Codes.{NoRight, Unwritten, Range}
-use Rattle.answer.specs.Checks.{◌then◌, ◌unless◌}
+use Rattle.answer.specs.Checks.{Verdict, ◌then◌, ◌unless◌}
 use Rattle.answer.specs.Limits.{length_check}
-use Rattle.answer.specs.declared.Verdict.{Verdict}
 use Rattle.answer.proofs.Checks.{first_fault_cong}
 use Rattle.address.specs.Address.{device_offset, memory_offset, in_device_range}
 use Rattle.address.specs.declared.MemoryAddress.{MemoryAddress}
 use Rattle.address.specs.declared.DeviceAddress.{DeviceAddress}
-use Rattle.iommu.specs.Table.{translate, readable}
+use Rattle.iommu.specs.Table.{Translation, At, Nowhere, translate, readable}
 use Rattle.iommu.specs.declared.Mapping.{Mapping}
-use Rattle.iommu.specs.declared.Translation.{Translation}
-use Rattle.iommu.specs.declared.Translation.TheVariants.{At, Nowhere}
 use Rattle.memory.specs.Shadow.{Shadow, initialized}
 use Rattle.memory.specs.Transfers.{unwritten_at, unwritten_in, host_write_checks, host_read_checks}
 use Rattle.memory.specs.Memory.{byte_at, bytes_from}

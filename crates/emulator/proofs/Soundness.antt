@@ -1,13 +1,13 @@
 -- Refusal 1, test by test.
 use Prim.Native.Nat.{◌≤◌, ◌*◌}
-use mathlib.Core.Path.{◌≡◌, refl, ◌∙◌}
-use mathlib.Core.Bool.{Bool, true, false}
+use mathlib.Core.Path.{◌≡◌}
+use mathlib.Core.Bool.{true}
 use mathlib.Core.List.{List}
 use lib.ListN.{length}
-use lib.Dec.{leb, eqb}
+use lib.Dec.{leb}
 use borrow.Author.Tests.{leb-true, eqb-true}
 use Rattle.answer.specs.Tests.{◌and◌}
-use Rattle.answer.proofs.Tests.{and_true, and_swap, and_first, and_second}
+use Rattle.answer.proofs.Tests.{and_true, and_swap}
 use Rattle.address.specs.Address.{memory_limit}
 use Rattle.iommu.specs.Table.{capacity, is_iommu_type, sound_table, table_of, in_use, Sound}
 use Rattle.iommu.specs.declared.Mapping.{Mapping}
@@ -45,21 +45,6 @@ module _ (s : State) (rs : List Mapping) where
   unfolding sound sound_card sound_iommu_type sound_interrupts sound_length sound_mappings lendable_records sound_registers machine_of
   sound-is = and_swap _ _ _
 
-  -- of the device, of the mappings, and of both
-  sound-found : {device mappings r : Bool} → device ≡ (is_card s.words and is_iommu_type s.iommu_type and sound_lines s.lines.lines and leb s.memory_length memory_limit and sound_file s.words (file_of s.words s.registers))
-      → mappings ≡ (leb (length rs) capacity and leb s.count (length rs) and sound_table s.memory_length (in_use (table_of rs s.count))) → r ≡ (device and mappings)
-      → r ≡ sound (length rs) (machine_of s rs)
-  sound-found d m e = e ∙ rw (d, m) sound-is
-
-  -- the device is judged first
-  module _ {device : Bool} (is : device ≡ (is_card s.words and is_iommu_type s.iommu_type and sound_lines s.lines.lines and leb s.memory_length memory_limit and sound_file s.words (file_of s.words s.registers))) where
-    pub sound_by_mappings : device ≡ true → {r : Bool} → r ≡ (leb (length rs) capacity and leb s.count (length rs) and sound_table s.memory_length (in_use (table_of rs s.count)))
-        → r ≡ sound (length rs) (machine_of s rs)
-    sound_by_mappings h {r} e = sound-found is e (and_second h refl)
-
-    pub unsound_device : device ≡ false → device ≡ sound (length rs) (machine_of s rs)
-    unsound_device h = sound-found is refl (and_first _ h refl)
-
   module _ (good : sound (length rs) (machine_of s rs) ≡ true) where
     card_and_length : (is_card s.words and is_iommu_type s.iommu_type and sound_lines s.lines.lines and leb s.memory_length memory_limit) ≡ true
     unfolding sound sound_card sound_iommu_type sound_interrupts sound_length machine_of
@@ -80,9 +65,13 @@ module _ (s : State) (rs : List Mapping) where
     unfolding sound
     sound-mappings = (and_true _ _ (and_true _ _ good).0).1
 
-    pub sound-records : Sound (table_of rs s.count)
+    pub sound_fits : s.count ≤ length rs
     unfolding sound_mappings lendable_records machine_of
-    sound-records = sound-table (table_of rs s.count) s.memory_length sound-mappings sound-noted
+    sound_fits = leb-true _ _ (and_true _ _ (and_true _ _ sound-mappings).0).1
+
+    pub sound-records : Sound (in_use (table_of rs s.count))
+    unfolding sound_mappings lendable_records machine_of
+    sound-records = (sound-table (table_of rs s.count) s.memory_length sound-mappings sound-noted).1
 
     pub sound_list : sound_table s.memory_length (in_use (table_of rs s.count)) ≡ true
     unfolding sound_mappings machine_of
@@ -91,15 +80,6 @@ module _ (s : State) (rs : List Mapping) where
 -- ---- memory, marks and state
 
 module _ (s : State) (rs : List Mapping) (m : Memory) where
-  -- the code asks for memory and marks first
-  pub usable-is : (lendable m and eqb (length m.bytes) s.memory_length and sound (length rs) (machine_of s rs)) ≡ usable both (emulator_of s rs m)
-  unfolding usable emulator_of as_noted machine_of
-  usable-is = refl
-
-  pub usable-found : {lent kept r : Bool} → lent ≡ (lendable m and eqb (length m.bytes) s.memory_length) → kept ≡ sound (length rs) (machine_of s rs) → r ≡ (lent and kept)
-      → r ≡ usable both (emulator_of s rs m)
-  usable-found l k e = e ∙ rw (l, k) usable-is
-
   module _ (good : usable both (emulator_of s rs m) ≡ true) where
     pub usable-lent : lendable m ≡ true
     unfolding usable emulator_of
@@ -114,7 +94,7 @@ module _ (s : State) (rs : List Mapping) (m : Memory) where
     usable-sound = (and_true _ _ good).1
 
     -- what transfers ask of the table, over memory
-    pub transfers_ready : Ready (table_of rs s.count) (length m.bytes)
+    pub transfers_ready : Ready (in_use (table_of rs s.count)) (length m.bytes)
     transfers_ready =
         let t = sound-records s rs usable-sound in
-        record { few = t.few; fits = t.fits; sound = rw usable-noted (sound_list s rs usable-sound); limit = lent-small m usable-lent }
+        record { few = t.few; sound = rw usable-noted (sound_list s rs usable-sound); limit = lent-small m usable-lent }

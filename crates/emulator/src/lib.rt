@@ -1,40 +1,39 @@
-// The emulator: the kept state and its soundness, and what each call but requests does once refusal 1 is decided. The calls themselves,
-// which borrow the state and the records, are those that are exported (crate `capi`).
-#![tactic(auto)]
+// The emulator: the kept state and its soundness, and every call but requests, whole. Whatever a call is given, it decides refusal 1 first,
+// and then makes its own checks. State, records, memory and marks stay parameters of their own, as C passes them: which of them a call
+// borrows to write differs from call to call, so that no one struct of them would serve.
+#![tactic(auto, using(answer::proofs::Checks::decides, answer::proofs::Checks::goes_on, answer::proofs::Tests::and_first, answer::proofs::Tests::and_second))]
 
-ghost use Rattle.std.specs.Prelude.{ℕ, ◌≡◌, true, List, [], leb, eqb, length};
-ghost use Rattle.answer.specs.Tests.{◌and◌, pick, flagged, flag_byte};
-ghost use Rattle.answer.specs.Answer.{refused};
-ghost use Rattle.address.specs.Address.{memory_limit, memory_address};
-ghost use Rattle.iommu.specs.Table.{is_iommu_type, holds, in_range, shown_by, translate};
-ghost use Rattle.iommu.specs.Halving.{probes_for};
-ghost use Rattle.iommu.specs.declared.Mapping.{Mapping as MappingRecord};
-ghost use Rattle.memory.specs.Memory.{Memory, memory_of, edited, clears};
+ghost use Rattle.std.specs.Prelude.{ℕ, ◌≡◌, ◌≤◌, List, [], leb, eqb, ltb, length};
+ghost use Rattle.answer.specs.Tests.{◌and◌};
+ghost use Rattle.answer.specs.Codes.{BadBench, Range};
+ghost use Rattle.answer.specs.Checks.{◌then◌, ◌unless◌};
+ghost use Rattle.answer.specs.Answer.{verdict_of};
+ghost use Rattle.answer.specs.Answer as answers;
+ghost use Rattle.address.specs.Address.{memory_limit, device_limit};
+ghost use Rattle.iommu.specs.Table.{is_iommu_type, translation_of, translate, table_of, in_use, Sound, Placed};
+ghost use Rattle.memory.specs.Memory.{Memory, memory_of};
+ghost use Rattle.virtqueue.specs.Ring.{open_queue};
 ghost use Rattle.registers.specs.Cards.{is_card};
 ghost use Rattle.registers.specs.File.{sound_file, file_of};
-ghost use Rattle.registers.specs.declared.Card.TheVariants.{Features64, Features128};
-ghost use Rattle.parts.specs.Load.{loaded_of};
 ghost use Rattle.interrupts.specs.Lines.{sound_lines};
-ghost use Rattle.virtqueue.specs.Ring.{queue_of};
-ghost use Rattle.virtqueue.specs.Progress.{begun};
-ghost use Rattle.emulator.specs.Machine.{machine_of, emulator_of, both as state_and_memory, sound as sound_machine, lendable as can_lend, lendable_records, usable as can_use, powered_on};
-ghost use Rattle.emulator.specs.Calls.{host_write, host_read, set_register, read_register, show_line, save_parts, load_on, queue_value};
+ghost use Rattle.emulator.specs.Machine.{machine_of, emulator_of, both, sound as sound_machine, lendable as can_lend, usable as can_use, powered_on};
+ghost use Rattle.emulator.specs.Calls.{power_on, device_read, device_write, host_write, host_read, set_register, read_register, show_line, walk_queue, load_parts, save_parts, stop, start, queue_value};
 ghost use Rattle.emulator.specs.Calls as calls;
-ghost use Rattle.emulator.specs.Contract.{Meets, MeetsAlone, Locates, told, told_line, with_registers_in, state_with, everything, queue_register, opening_checks};
+ghost use Rattle.emulator.specs.Contract.{Meets, MeetsAlone, Locates, told, told_done, told_line, told_walk, state_with, everything};
 ghost use Rattle.emulator.specs.declared.State.{State as StateRecord};
 
 use address::{DeviceAddress, MemoryAddress};
-use answer::{Answer, Verdict};
+use answer::{Reason, Refusal};
 use interrupts::{Line, Lines};
-use iommu::{Mapping, Translation};
-use parts::Loaded;
-use registers::{Card, Register, Registers};
-use virtqueue::{Queue, Walk};
+use iommu::{Mapping, Search, Target};
+use registers::{Card, Registers};
+use virtqueue::{Found, Queue};
+use wire::Number;
 
 // The state that a caller keeps between calls: the length of memory noted at power on, how many of the lent records are in use, the
 // device's registers, whether the device runs, which card it is, by its 64-bit words of features: 1 or 2, the number of the container's IOMMU
-// type: 1 or 3, and the interrupt lines. The device runs where `running` is 1, and no other value of that byte says so. Any values may stand in the state: each
-// call says whether they make a sound one.
+// type: 1 or 3, and the interrupt lines. The device runs where `running` is 1, and no other value of that byte says so. Any values may stand
+// in the state: each call says whether they make a sound one.
 #[repr(C)]
 #[derive(Clone, Copy)]
 pub struct State {
@@ -47,430 +46,361 @@ pub struct State {
     pub lines: Lines,
 }
 
-// What the byte `running` of a state holds where the device runs.
+// What the byte `running` of a state holds where the device runs, and what a call that stops it leaves there.
 const RUNNING: u8 = 1;
 
-// The number of the last queue.
+const STOPPED: u8 = 0;
+
+// The number of the last queue, and where the registers of queues begin among the slots.
 const LAST_QUEUE: u32 = 3;
 
-// What look-up answers: memory address, rights and the bytes left of the mapping, or a refusal's number and place; and in either case how
-// many records it looked at.
+const QUEUES: usize = 6;
+
+// What look-up answers, and how many records it looked at for that.
 #[derive(Clone, Copy)]
-pub enum Location {
-    At(MemoryAddress, u32, u64, u64),
-    Refused(u32, u64, u64),
+pub struct LookUp {
+    pub found: Result<Target, Refusal>,
+    pub probes: u64,
 }
 
-// What is shown of an interrupt line: the line, or a refusal's number and place.
-#[derive(Clone, Copy)]
-pub enum Shown {
-    At(Line),
-    Refused(u32, u64),
-}
+impl State {
+    // Of the records that are lent, those in use.
+    #[tactic(auto, unfolding(iommu::specs::Table::in_use))]
+    pub fn mappings<'a>(&self, records: &'a [Mapping]) -> &'a [Mapping]
+        requires { self.now.count ≤ length records.now }
+        ensures { result.now ≡ in_use (table_of records.now self.now.count) }
+    {
+        &records[..self.count]
+    }
 
-// An answer, and the registers to keep.
-#[derive(Clone, Copy)]
-pub struct Changed {
-    pub answer: Answer,
-    pub registers: Registers,
+    // Whether the card, the container's IOMMU type, the interrupt lines, the noted length and the registers are sound.
+    fn sound_device(&self) -> bool
+        ensures { result ≡ (is_card self.now.words and is_iommu_type self.now.iommu_type and sound_lines self.now.lines.lines and leb self.now.memory_length memory_limit and sound_file self.now.words (file_of self.now.words self.now.registers)) }
+    {
+        registers::is_card(self.words)
+            && iommu::is_iommu_type(self.iommu_type)
+            && interrupts::sound(self.lines)
+            && self.memory_length <= address::MEMORY_LIMIT
+            && registers::sound(self.words, self.registers)
+    }
 }
 
 // ---- refusal 1
-
-// Whether the card, the IOMMU type and the interrupt lines of a kept state are sound.
-fn sound_kinds(words: u8, kind: u32, lines: Lines) -> bool
-    ensures { result ≡ (is_card words and is_iommu_type kind and sound_lines lines.lines) }
-{
-    if !registers::is_card(words) {
-        return false;
-    }
-    if !iommu::is_iommu_type(kind) {
-        return false;
-    }
-    interrupts::sound(lines)
-}
-
-// Whether the card, the container's IOMMU type, the noted length and the registers of a kept state are sound.
-fn sound_device(words: u8, kind: u32, lines: Lines, length: u64, registers: Registers) -> bool
-    ensures { result ≡ (is_card words and is_iommu_type kind and sound_lines lines.lines and leb length memory_limit and sound_file words (file_of words registers)) }
-{
-    if !sound_kinds(words, kind, lines) {
-        return false;
-    }
-    if address::MEMORY_LIMIT < length {
-        return false;
-    }
-    registers::sound(words, registers)
-}
-
-fn both(a: bool, b: bool) -> bool
-    ensures { result ≡ (a and b) }
-{
-    a && b
-}
 
 // Whether a kept state is sound with the records that are lent.
 pub fn sound(state: &State, records: &[Mapping]) -> bool
     ensures { result ≡ sound_machine (length records.now) (machine_of state.now records.now) }
 {
-    let length = state.memory_length;
-    let count = state.count;
-    let registers = state.registers;
-    let words = state.words;
-    let kind = state.iommu_type;
-    let lines = state.lines;
-    let device = sound_device(words, kind, lines, length, registers);
-    // Where the noted length is known to be in range, the loop over records has one test less.
-    if device {
-        return iommu::sound(records, count, length);
-    }
-    device
+    // The device first: where the noted length is known to be in range, the loop over records has one test less.
+    state.sound_device() && iommu::sound(records, state.count, state.memory_length)
 }
 
-// Whether memory and marks, by their lengths, can be lent.
+// Whether memory and marks, by their lengths, can be lent: there is one mark byte for each eight bytes begun.
 fn lendable(bytes: &[u8], shadow: &[u8]) -> bool
     ensures { result ≡ can_lend (memory_of bytes.now shadow.now) }
 {
-    // One mark byte for each eight bytes begun; no sum is made of a length that is not judged yet.
-    if shadow.len() != bytes.len() / 8 + (bytes.len() % 8 + 7) / 8 {
-        return false;
-    }
-    bytes.len() as u64 <= address::MEMORY_LIMIT
-}
-
-// Whether they can be lent, and memory has the noted length.
-fn lendable_as_noted(noted: u64, bytes: &[u8], shadow: &[u8]) -> bool
-    ensures { result ≡ (can_lend (memory_of bytes.now shadow.now) and eqb (length bytes.now) noted) }
-{
-    if !lendable(bytes, shadow) {
-        return false;
-    }
-    bytes.len() as u64 == noted
+    shadow.len() == bytes.len().div_ceil(8) && bytes.len() as u64 <= address::MEMORY_LIMIT
 }
 
 // Whether a call that is given state, records, memory and marks may use them.
+#[tactic(auto, using(answer::proofs::Tests::and_first, answer::proofs::Tests::and_second), unfolding(crate::specs::Machine::usable, crate::specs::Machine::emulator_of, crate::specs::Machine::as_noted, crate::specs::Machine::machine_of))]
 pub fn usable(state: &State, records: &[Mapping], bytes: &[u8], shadow: &[u8]) -> bool
-    ensures { result ≡ can_use state_and_memory (emulator_of state.now records.now (memory_of bytes.now shadow.now)) }
+    ensures { result ≡ can_use both (emulator_of state.now records.now (memory_of bytes.now shadow.now)) }
 {
-    let length = state.memory_length;
-    let lent = lendable_as_noted(length, bytes, shadow);
-    both(lent, sound(state, records))
+    lendable(bytes, shadow) && bytes.len() as u64 == state.memory_length && sound(state, records)
 }
 
-// A number that a call goes on with, and 0 where refusal 1 is due.
-pub fn admitted(ok: bool, n: usize) -> usize
-    ensures { result ≡ pick ok n 0 }
+// Refusal 1 of a call that is given state and records alone.
+pub fn check_sound(state: &State, records: &[Mapping]) -> Result<(), Refusal>
+    ensures { verdict_of result ≡ (BadBench unless sound_machine (length records.now) (machine_of state.now records.now)) }
 {
-    if ok {
-        return n;
-    }
-    0
+    Reason::BadBench.unless(sound(state, records))
 }
 
-// ---- calls, behind refusal 1: `ok` says whether it passes
-
-// Fresh start, as far as memory goes: the marks are cleared where records, memory and marks can be lent, and it says whether they can.
-pub fn clear_marks(room: usize, bytes: &[u8], shadow: &mut [u8]) -> bool
-    ensures { (result ≡ (can_lend (memory_of bytes.now shadow.old) and lendable_records room)) × (memory_of bytes.now shadow.new ≡ pick result (edited (clears (memory_address 0) (length bytes.now)) (memory_of bytes.now shadow.old)) (memory_of bytes.now shadow.old)) }
+// That of one that is given memory and marks as well.
+pub fn check_usable(
+    state: &State,
+    records: &[Mapping],
+    bytes: &[u8],
+    shadow: &[u8],
+) -> Result<(), Refusal>
+    ensures { verdict_of result ≡ (BadBench unless can_use both (emulator_of state.now records.now (memory_of bytes.now shadow.now))) }
 {
-    if !lendable(bytes, shadow) {
-        return false;
-    }
-    if iommu::CAPACITY < room {
-        return false;
-    }
-    let n = bytes.len();
-    memory::clear(shadow, 0, n);
-    true
+    Reason::BadBench.unless(usable(state, records, bytes, shadow))
 }
+
+// ---- power on
 
 // The state that a fresh start of a card leaves, with a memory of `length` bytes: an empty table, and the device stopped and reset.
-fn fresh(card: Card, length: usize) -> State
+pub fn fresh(card: Card, length: usize) -> State
     ensures { (s : StateRecord) → result ≡ state_with everything (powered_on card length) s }
 {
-    let registers = registers::reset();
-    let lines = interrupts::disabled();
     State {
         memory_length: length as u64,
         count: 0,
-        registers,
-        running: 0,
+        registers: registers::reset(),
+        running: STOPPED,
         words: registers::words_of(card),
         iommu_type: iommu::TYPE1V2,
-        lines,
+        lines: interrupts::disabled(),
     }
 }
 
-// That of the first card.
-pub fn fresh_64(length: usize) -> State
-    ensures { (s : StateRecord) → result ≡ state_with everything (powered_on Features64 length) s }
+// Fresh start of a card: every mark is cleared, and nothing of the old state stays.
+pub fn power_on(
+    card: Card,
+    state: &mut State,
+    records: &[Mapping],
+    bytes: &[u8],
+    shadow: &mut [u8],
+) -> Result<(), Refusal>
+    ensures { Meets (power_on card) [] state.old records.now (memory_of bytes.now shadow.old) (told_done result) [] (memory_of bytes.now shadow.new) state.new records.now }
 {
-    fresh(Card::Features64, length)
+    Reason::BadBench.unless(lendable(bytes, shadow))?;
+    Reason::BadBench.unless(records.len() <= iommu::CAPACITY)?;
+    memory::clear(shadow, 0, bytes.len());
+    *state = fresh(card, bytes.len());
+    Ok(())
 }
 
-// That of the second card, which has 128 feature bits.
-pub fn fresh_128(length: usize) -> State
-    ensures { (s : StateRecord) → result ≡ state_with everything (powered_on Features128 length) s }
+// ---- look-up, and transfers of the card
+
+// The checks of a look-up that look at no mapping.
+fn check_look_up(state: &State, records: &[Mapping], d: DeviceAddress) -> Result<(), Refusal>
+    ensures { verdict_of result ≡ (BadBench unless sound_machine (length records.now) (machine_of state.now records.now) then Range unless ltb d.0 device_limit) }
 {
-    fresh(Card::Features128, length)
+    check_sound(state, records)?;
+    Reason::Range.unless(d.0 < address::DEVICE_LIMIT)
 }
 
-// Look-up: where a device address lies in memory, and with which rights. `m` is the first mapping that ends past it.
-pub fn locate(ok: bool, d: DeviceAddress, m: Mapping, probes: u64) -> Location
-    requires { ok ≡ true → holds m d ≡ true → in_range memory_limit m ≡ true }
-    ensures { (s : StateRecord) (rs : List MappingRecord) → ok ≡ sound_machine (length rs) (machine_of s rs) → (ok ≡ true → shown_by m d ≡ translate (machine_of s rs).mappings d) → (ok ≡ true → probes ≡ probes_for (machine_of s rs).mappings d) → (mem : Memory) → Locates d s rs mem result }
+// What a device address stands for, by a search that has ended.
+fn target_at(mappings: &[Mapping], search: Search, d: DeviceAddress) -> Option<Target>
+    requires { (Sound mappings.now) × Placed mappings.now d search.lo search.held }
+    ensures { translation_of result ≡ translate mappings.now d }
 {
-    if !ok {
-        return Location::Refused(answer::BAD_BENCH, 0, 0);
-    }
-    if address::DEVICE_LIMIT <= d.0 {
-        return Location::Refused(answer::RANGE, 0, 0);
-    }
-    let found = iommu::shown_by(m, d);
-    match found {
-        Translation::At(a, rights, left) => Location::At(a, rights, left, probes),
-        Translation::Nowhere => Location::Refused(answer::UNMAPPED, 0, probes),
+    if search.held {
+        iommu::shown_by(mappings[search.lo], d)
+    } else {
+        None
     }
 }
+
+// Look-up: where a device address lies in memory, with which rights, and how much of its mapping is left from there on.
+pub fn look_up(state: &State, records: &[Mapping], d: DeviceAddress) -> LookUp
+    ensures { (m : Memory) → Locates d state.now records.now m result }
+{
+    if let Err(refusal) = check_look_up(state, records, d) {
+        return LookUp {
+            found: Err(refusal),
+            probes: 0,
+        };
+    }
+    let mappings = state.mappings(records);
+    let search = iommu::find(mappings, d);
+    LookUp {
+        found: target_at(mappings, search, d).ok_or(Reason::Unmapped.at(0)),
+        probes: search.probes,
+    }
+}
+
+// Card read: the whole of `buf` is filled from device address `d` on.
+pub fn device_read(
+    state: &State,
+    records: &[Mapping],
+    bytes: &[u8],
+    shadow: &[u8],
+    d: DeviceAddress,
+    buf: &mut [u8],
+) -> Result<(), Refusal>
+    ensures { Meets (device_read d) buf.old state.now records.now (memory_of bytes.now shadow.now) (told_done result) buf.new (memory_of bytes.now shadow.now) state.now records.now }
+{
+    check_usable(state, records, bytes, shadow)?;
+    let mappings = state.mappings(records);
+    let first = dma::check_transfer(mappings, bytes.len(), shadow, d, buf.len(), false)?;
+    dma::read(mappings, first, bytes, d, buf);
+    Ok(())
+}
+
+// Card write: `buf` goes to device address `d` and the ones behind it, and its bytes are written.
+pub fn device_write(
+    state: &State,
+    records: &[Mapping],
+    bytes: &mut [u8],
+    shadow: &mut [u8],
+    d: DeviceAddress,
+    buf: &[u8],
+) -> Result<(), Refusal>
+    ensures { Meets (device_write d) buf.now state.now records.now (memory_of bytes.old shadow.old) (told_done result) buf.now (memory_of bytes.new shadow.new) state.now records.now }
+{
+    check_usable(state, records, bytes, shadow)?;
+    let mappings = state.mappings(records);
+    let first = dma::check_transfer(mappings, bytes.len(), shadow, d, buf.len(), true)?;
+    dma::write(mappings, first, bytes, shadow, d, buf);
+    Ok(())
+}
+
+// ---- transfers of the host
 
 // Host store: `buf` goes to memory from `a` on, and its bytes are written.
 pub fn host_write(
-    ok: bool,
+    state: &State,
+    records: &[Mapping],
     bytes: &mut [u8],
     shadow: &mut [u8],
     a: MemoryAddress,
     buf: &[u8],
-) -> Answer
-    requires { ok ≡ true → can_lend (memory_of bytes.old shadow.old) ≡ true }
-    ensures { (s : StateRecord) (rs : List MappingRecord) → ok ≡ can_use state_and_memory (emulator_of s rs (memory_of bytes.old shadow.old)) → Meets (host_write a) buf.now s rs (memory_of bytes.old shadow.old) (told result) buf.now (memory_of bytes.new shadow.new) s rs }
+) -> Result<(), Refusal>
+    ensures { Meets (host_write a) buf.now state.now records.now (memory_of bytes.old shadow.old) (told_done result) buf.now (memory_of bytes.new shadow.new) state.now records.now }
 {
-    if !ok {
-        return Answer::Refused(answer::BAD_BENCH, 0);
-    }
-    let n = buf.len();
-    let verdict = memory::check_host_write(bytes.len() as u64, a, n);
-    match verdict {
-        Verdict::Fail(code, place) => Answer::Refused(code, place),
-        Verdict::Pass => {
-            let at = a.0 as usize;
-            memory::store(bytes, shadow, at, buf, 0, n);
-            Answer::Done(0)
-        }
-    }
+    check_usable(state, records, bytes, shadow)?;
+    memory::check_host_write(bytes.len() as u64, a, buf.len())?;
+    memory::store(bytes, shadow, a.0 as usize, buf, 0, buf.len());
+    Ok(())
 }
 
 // Host load: the whole of `buf` is filled from memory at `a`.
-pub fn host_read(ok: bool, bytes: &[u8], shadow: &[u8], a: MemoryAddress, buf: &mut [u8]) -> Answer
-    requires { ok ≡ true → can_lend (memory_of bytes.now shadow.now) ≡ true }
-    ensures { (s : StateRecord) (rs : List MappingRecord) → ok ≡ can_use state_and_memory (emulator_of s rs (memory_of bytes.now shadow.now)) → Meets (host_read a) buf.old s rs (memory_of bytes.now shadow.now) (told result) buf.new (memory_of bytes.now shadow.now) s rs }
+pub fn host_read(
+    state: &State,
+    records: &[Mapping],
+    bytes: &[u8],
+    shadow: &[u8],
+    a: MemoryAddress,
+    buf: &mut [u8],
+) -> Result<(), Refusal>
+    ensures { Meets (host_read a) buf.old state.now records.now (memory_of bytes.now shadow.now) (told_done result) buf.new (memory_of bytes.now shadow.now) state.now records.now }
 {
-    if !ok {
-        return Answer::Refused(answer::BAD_BENCH, 0);
-    }
+    check_usable(state, records, bytes, shadow)?;
+    memory::check_host_read(bytes.len() as u64, shadow, a, buf.len())?;
     let n = buf.len();
-    let verdict = memory::check_host_read(bytes.len() as u64, shadow, a, n);
-    match verdict {
-        Verdict::Fail(code, place) => Answer::Refused(code, place),
-        Verdict::Pass => {
-            let at = a.0 as usize;
-            wire::copy(buf, 0, bytes, at, n);
-            Answer::Done(0)
-        }
-    }
+    wire::copy(buf, 0, bytes, a.0 as usize, n);
+    Ok(())
 }
 
 // Forget: the marks of `n` bytes from `a` on are cleared; the bytes stay.
-pub fn invalidate(ok: bool, bytes: &[u8], shadow: &mut [u8], a: MemoryAddress, n: u64) -> Answer
-    requires { ok ≡ true → can_lend (memory_of bytes.now shadow.old) ≡ true }
-    ensures { (s : StateRecord) (rs : List MappingRecord) → ok ≡ can_use state_and_memory (emulator_of s rs (memory_of bytes.now shadow.old)) → Meets (calls.invalidate a n) [] s rs (memory_of bytes.now shadow.old) (told result) [] (memory_of bytes.now shadow.new) s rs }
+pub fn invalidate(
+    state: &State,
+    records: &[Mapping],
+    bytes: &[u8],
+    shadow: &mut [u8],
+    a: MemoryAddress,
+    n: u64,
+) -> Result<(), Refusal>
+    ensures { Meets (calls.invalidate a n) [] state.now records.now (memory_of bytes.now shadow.old) (told_done result) [] (memory_of bytes.now shadow.new) state.now records.now }
 {
-    if !ok {
-        return Answer::Refused(answer::BAD_BENCH, 0);
-    }
-    let verdict = memory::check_invalidate(bytes.len() as u64, a, n);
-    match verdict {
-        Verdict::Fail(code, place) => Answer::Refused(code, place),
-        Verdict::Pass => {
-            memory::clear(shadow, a.0 as usize, n as usize);
-            Answer::Done(0)
-        }
-    }
+    check_usable(state, records, bytes, shadow)?;
+    memory::check_invalidate(bytes.len() as u64, a, n)?;
+    memory::clear(shadow, a.0 as usize, n as usize);
+    Ok(())
 }
 
-fn unchanged(code: u32, place: u64, registers: Registers) -> Changed
-    ensures { (told result.answer ≡ refused code place) × (result.registers ≡ registers) }
-{
-    Changed {
-        answer: Answer::Refused(code, place),
-        registers,
-    }
-}
+// ---- registers and interrupt lines
 
-// Sets the register of a type and a selector number to the value `v`, in the registers of a card.
+// Sets the register of a type and a selector number to a value.
 pub fn set_register(
-    ok: bool,
-    words: u8,
-    registers: Registers,
+    state: &mut State,
+    records: &[Mapping],
     kind: u64,
     selector: u64,
-    v: &[u8],
-) -> Changed
-    requires { ok ≡ true → is_card words ≡ true }
-    ensures { (s : StateRecord) (rs : List MappingRecord) → ok ≡ sound_machine (length rs) (machine_of s rs) → words ≡ s.words → registers ≡ s.registers → MeetsAlone (set_register kind selector) v.now s rs (told result.answer) v.now (with_registers_in result.registers s) rs }
+    value: &[u8],
+) -> Result<(), Refusal>
+    ensures { MeetsAlone (set_register kind selector) value.now state.old records.now (told_done result) value.now state.new records.now }
 {
-    if !ok {
-        return unchanged(answer::BAD_BENCH, 0, registers);
-    }
-    let verdict = registers::check_set(words, kind, selector, v);
-    match verdict {
-        Verdict::Fail(code, place) => unchanged(code, place, registers),
-        Verdict::Pass => {
-            let next = registers::set(registers, kind, selector, v);
-            Changed {
-                answer: Answer::Done(0),
-                registers: next,
-            }
-        }
-    }
+    check_sound(state, records)?;
+    state.registers = registers::try_set(state.words, state.registers, kind, selector, value)?;
+    Ok(())
 }
 
 // Reads the register of a type and a selector number: its value goes to the buffer's start, and its length is the result.
 pub fn read_register(
-    ok: bool,
-    words: u8,
-    registers: Registers,
+    state: &State,
+    records: &[Mapping],
     kind: u64,
     selector: u64,
     buf: &mut [u8],
-) -> Answer
-    requires { ok ≡ true → is_card words ≡ true }
-    ensures { (s : StateRecord) (rs : List MappingRecord) → ok ≡ sound_machine (length rs) (machine_of s rs) → words ≡ s.words → registers ≡ s.registers → MeetsAlone (read_register kind selector) buf.old s rs (told result) buf.new s rs }
+) -> Result<u64, Refusal>
+    ensures { MeetsAlone (read_register kind selector) buf.old state.now records.now (told result) buf.new state.now records.now }
 {
-    if !ok {
-        return Answer::Refused(answer::BAD_BENCH, 0);
-    }
-    let verdict = registers::check_read(words, registers, kind, selector, buf.len());
-    match verdict {
-        Verdict::Fail(code, place) => Answer::Refused(code, place),
-        Verdict::Pass => {
-            let n = registers::read(words, registers, kind, selector, buf);
-            Answer::Done(n as u64)
-        }
-    }
+    check_sound(state, records)?;
+    let n = registers::try_read(state.words, state.registers, kind, selector, buf)?;
+    Ok(n as u64)
 }
 
 // Shows an interrupt line, by its index and its number there.
-pub fn show_line(ok: bool, lines: Lines, index: u32, line: u32) -> Shown
-    ensures { (s : StateRecord) (rs : List MappingRecord) → ok ≡ sound_machine (length rs) (machine_of s rs) → lines ≡ s.lines → MeetsAlone (show_line index line) [] s rs (told_line result) [] s rs }
+pub fn show_line(state: &State, records: &[Mapping], index: u32, line: u32) -> Result<Line, Refusal>
+    ensures { MeetsAlone (show_line index line) [] state.now records.now (told_line result) [] state.now records.now }
 {
-    if !ok {
-        return Shown::Refused(answer::BAD_BENCH, 0);
-    }
-    let verdict = interrupts::check_show(index, line);
-    match verdict {
-        Verdict::Fail(code, place) => Shown::Refused(code, place),
-        Verdict::Pass => {
-            let found = interrupts::shown(lines, index, line);
-            Shown::At(found)
-        }
-    }
+    check_sound(state, records)?;
+    interrupts::try_shown(state.lines, index, line)
 }
 
-// The register of a queue; for a number that no queue has, that of the first.
-fn queue_register(registers: Registers, queue: u32) -> Register
-    ensures { (result ≡ queue_register registers queue) × (length result.bytes ≡ 32) }
+// ---- queues
+
+// The queue of a number, as its register tells of it. Of every card the register of a queue is the same.
+fn open_queue(registers: &Registers, queue: u32) -> Result<Queue, Refusal>
+    ensures { (w : ℕ) → answers.told result ≡ open_queue queue (queue_value w (file_of w registers.now) queue) }
 {
-    let slots = registers.slots;
-    match queue {
-        1 => slots[7],
-        2 => slots[8],
-        3 => slots[9],
-        _ => slots[6],
-    }
+    Reason::Index.when(LAST_QUEUE < queue)?;
+    let r = registers.slots[QUEUES + queue as usize];
+    Reason::QueueNotReady.unless(r.set == registers::SET)?;
+    Reason::QueueNotReady.when(u16::get(&r.bytes, 4) == 0)?;
+    Ok(Queue {
+        size: u16::get(&r.bytes, 0),
+        table: u64::get(&r.bytes, 8),
+        driver: u64::get(&r.bytes, 16),
+    })
 }
 
-// What the register of a queue tells of it. Where the checks of a walk refuse, nothing is asked of it.
-#[tactic(auto, unfolding(virtqueue::specs::Ring::queue_of))]
-pub fn queue_at(registers: Registers, queue: u32) -> Queue
-    ensures { result ≡ queue_of (queue_register registers queue).bytes }
+// Walks a queue from the caller's last index on: the numbers of what it finds go to the array.
+pub fn walk_queue(
+    state: &State,
+    records: &[Mapping],
+    bytes: &[u8],
+    shadow: &[u8],
+    queue: u32,
+    last: u16,
+    numbers: &mut [u64],
+) -> Result<Found, Refusal>
+    ensures { Meets (walk_queue queue last) numbers.old state.now records.now (memory_of bytes.now shadow.now) (told_walk result) numbers.new (memory_of bytes.now shadow.now) state.now records.now }
 {
-    let r = queue_register(registers, queue);
-    let bytes = r.bytes;
-    Queue {
-        size: wire::get_u16(&bytes, 0),
-        table: wire::get_u64(&bytes, 8),
-        driver: wire::get_u64(&bytes, 16),
-    }
+    check_usable(state, records, bytes, shadow)?;
+    let q = open_queue(&state.registers, queue)?;
+    virtqueue::walk_queue(state.mappings(records), bytes, shadow, q, last, numbers)
 }
 
-// The checks of a walk that read nothing.
-fn check_queue(ok: bool, registers: Registers, queue: u32) -> Verdict
-    ensures { (w : ℕ) → result ≡ opening_checks ok queue (queue_value w (file_of w registers) queue) }
-{
-    if !ok {
-        return Verdict::Fail(answer::BAD_BENCH, 0);
-    }
-    if LAST_QUEUE < queue {
-        return Verdict::Fail(answer::INDEX, 0);
-    }
-    let r = queue_register(registers, queue);
-    let bytes = r.bytes;
-    if r.set != registers::SET {
-        return Verdict::Fail(answer::QUEUE_NOT_READY, 0);
-    }
-    if wire::get_u16(&bytes, 4) == 0 {
-        return Verdict::Fail(answer::QUEUE_NOT_READY, 0);
-    }
-    Verdict::Pass
-}
+// ---- parts
 
-// The walk of a queue from the caller's last index on, which has read nothing. Of every card the register of a queue is the same.
-pub fn begin_walk(ok: bool, registers: Registers, queue: u32, last: u16) -> Walk
-    ensures { (w : ℕ) → result ≡ begun (opening_checks ok queue (queue_value w (file_of w registers) queue)) last }
+// Loads a stream of parts: the registers that it names take their values, and all others become unset.
+pub fn load_parts(state: &mut State, records: &[Mapping], stream: &[u8]) -> Result<(), Refusal>
+    ensures { MeetsAlone load_parts stream.now state.old records.now (told_done result) stream.now state.new records.now }
 {
-    virtqueue::begin(check_queue(ok, registers, queue), last)
-}
-
-// What loading a stream of parts comes to, and the registers that were loaded: those named take their values, all others become unset;
-// where it is refused none of them is set.
-pub fn load_registers(ok: bool, words: u8, running: u8, stream: &[u8]) -> Loaded
-    requires { ok ≡ true → is_card words ≡ true }
-    ensures { result ≡ loaded_of (load_on ok words (flagged running) stream.now) }
-{
-    if !ok {
-        let none = registers::blank();
-        return Loaded {
-            verdict: Verdict::Fail(answer::BAD_BENCH, 0),
-            registers: none,
-        };
-    }
-    parts::load(words, running == RUNNING, stream)
+    check_sound(state, records)?;
+    state.registers = parts::load(state.words, state.running == RUNNING, stream)?;
+    Ok(())
 }
 
 // Saves the registers as a stream of parts at the buffer's start; its length is the result.
-pub fn save_parts(ok: bool, words: u8, running: u8, registers: Registers, buf: &mut [u8]) -> Answer
-    requires { ok ≡ true → is_card words ≡ true }
-    ensures { (s : StateRecord) (rs : List MappingRecord) → ok ≡ sound_machine (length rs) (machine_of s rs) → words ≡ s.words → running ≡ s.running → registers ≡ s.registers → MeetsAlone save_parts buf.old s rs (told result) buf.new s rs }
+pub fn save_parts(state: &State, records: &[Mapping], buf: &mut [u8]) -> Result<u64, Refusal>
+    ensures { MeetsAlone save_parts buf.old state.now records.now (told result) buf.new state.now records.now }
 {
-    if !ok {
-        return Answer::Refused(answer::BAD_BENCH, 0);
-    }
-    let verdict = parts::check_save(words, registers, running == RUNNING, buf.len());
-    match verdict {
-        Verdict::Fail(code, place) => Answer::Refused(code, place),
-        Verdict::Pass => {
-            let n = parts::save(words, registers, buf);
-            Answer::Done(n as u64)
-        }
-    }
+    check_sound(state, records)?;
+    let n = parts::try_save(state.words, state.registers, state.running == RUNNING, buf)?;
+    Ok(n as u64)
 }
 
-// The byte `running` that stop or start leaves: they set the running state, whatever it was.
-pub fn run_byte(ok: bool, was: u8, running: bool) -> u8
-    ensures { result ≡ pick ok (flag_byte running) was }
+// ---- stop and start, which set the running state whatever it was. Each is three lines; one function for both would be a third beside them.
+
+pub fn stop(state: &mut State, records: &[Mapping]) -> Result<(), Refusal>
+    ensures { MeetsAlone stop [] state.old records.now (told_done result) [] state.new records.now }
 {
-    if ok {
-        return running as u8;
-    }
-    was
+    check_sound(state, records)?;
+    state.running = STOPPED;
+    Ok(())
+}
+
+pub fn start(state: &mut State, records: &[Mapping]) -> Result<(), Refusal>
+    ensures { MeetsAlone start [] state.old records.now (told_done result) [] state.new records.now }
+{
+    check_sound(state, records)?;
+    state.running = RUNNING;
+    Ok(())
 }

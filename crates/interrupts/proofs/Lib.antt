@@ -1,5 +1,6 @@
 pub mod Indices
-pub mod Numbers
+pub mod Names
+pub mod Joins
 pub mod Soundness
 pub mod Runs
 pub mod Requests

@@ -1,21 +1,24 @@
 -- Laws of request 110: what its checks tell where they pass, that they and the lines after it go by the bytes that it takes in alone, and
 -- that soundness is kept.
-use Rattle.std.proofs.Common.{◌≡◌, ℕ, zero, suc, ◌+◌, ◌*◌, ◌<◌, ◌≤◌, Bool, true, false, not, eqb, ltb, List, length, get_or, sym, refl, ap, ◌∙◌, arith, ltb-false, lt-ltb, eq-eqb, eqb-true, le-leb}
+use Rattle.std.proofs.Common.{◌≡◌, ℕ, zero, suc, ◌+◌, ◌*◌, ◌/◌, ◌%◌, ◌<◌, ◌≤◌, Bool, true, false, not, eqb, ltb, List, length, take, drop, replicate, length-take-le, length-drop, get_or, sym, refl, ap, ◌∙◌, arith, ltb-false, lt-ltb, eq-eqb, eqb-true, le-leb}
 use mathlib.Core.Bool.{false≢true}
 use borrow.Author.Tests.{eqb-false}
+use borrow.Rule.Slice.PartMut.{put_mid}
+use Rattle.std.specs.List.{list_any, range_with_len}
+use Rattle.std.specs.Prelude.{◌||◌}
 use Rattle.answer.specs.Tests.{◌and◌, ◌or◌, pick}
-use Rattle.answer.specs.Codes.{ArgSize, Value}
-use Rattle.answer.specs.Checks.{◌then◌, ◌when◌}
-use Rattle.answer.specs.declared.Verdict.TheVariants.{Pass}
+use Rattle.answer.specs.Codes.{ArgSize, Flags, Index, Empty, Range, Value}
+use Rattle.answer.specs.Checks.{Pass, ◌then◌, ◌when◌, ◌unless◌}
 use Rattle.answer.proofs.Tests.{and_made, pick_false, is_false}
-use Rattle.answer.proofs.Checks.{then_pass, when_pass}
+use Rattle.answer.proofs.Checks.{then_pass, when_pass, then_assoc}
 use Rattle.wire.specs.Field.{field}
 use Rattle.wire.proofs.Laws.{field_cong}
 use Rattle.interrupts.specs.declared.Line.{Line}
-use Rattle.interrupts.specs.Lines.{index_at, automasked, first_line, line_count, lower, sound_lines, stored, off}
-use Rattle.interrupts.specs.Requests.{argsz_of, flags_of, index_of, start_of, count_of, kind_of, action_of, data_bool, data_event, data_start, width, event_at, byte_at, disables, field_checks, any_lower, data_checks, set_checks, acted, selected, changed_line, changed_run, range_start, range_count, changed_lines, reads_data}
+use Rattle.interrupts.specs.declared.Request.{Request}
+use Rattle.interrupts.specs.Lines.{index_at, maskable, automasked, first_line, line_count, lower, sound_lines, stored, off}
+use Rattle.interrupts.specs.Requests.{data_number, action_number, AskedBy, argsz_of, flags_of, index_of, start_of, count_of, kind_of, action_of, data_none, data_bool, data_event, act_trigger, data_start, one_of_three, width, event_at, byte_at, disables, field_checks, any_lower, data_checks, set_checks, acted, selected, changed_line, changed_run, range_start, range_count, changed_lines, reads_data, show_checks}
 use Rattle.interrupts.proofs.Indices.{index-within}
-use Rattle.interrupts.proofs.Runs.{run_length_lem, run_cong}
+use Rattle.interrupts.proofs.Runs.{run_length_lem, run_cong, run-part, run-filled}
 use Rattle.interrupts.proofs.Soundness.{off-sound, acted-number, run_sound}
 
 -- ---- one of many event numbers
@@ -38,6 +41,31 @@ unfolding any_lower
 any_cong a b zero h = refl
 any_cong a b (suc n) h = rw (any_cong a b n (λ i lt. h i (omega arith)), h n (omega arith))
 
+-- one of a range of numbers: the last, or one before it
+either : (a b c : Bool) → (a || (b or c)) ≡ ((a || b) or c)
+unfolding ◌or◌
+either true b c = refl
+either false b c = refl
+
+any-last : (p : ℕ → Bool) (a n : ℕ) → list_any p (range_with_len a (suc n)) ≡ (list_any p (range_with_len a n) or p (a + n))
+unfolding ◌or◌
+any-last p a zero = go (p a) (p (a + 0)) (ap p (omega arith))
+  where
+    go : (s t : Bool) → s ≡ t → (s || false) ≡ t
+    go true t e = e
+    go false t e = e
+any-last p a (suc n) =
+    ap (λ (b : Bool). p a || b) (any-last p (a + 1) n)
+    ∙ either (p a) (list_any p (range_with_len (a + 1) n)) (p (a + 1 + n))
+    ∙ ap (λ (k : ℕ). list_any p (range_with_len a (suc n)) or p k) (omega arith)
+
+pub any-ranged : (buf : List ℕ) (n : ℕ) → list_any (λ (j : ℕ). lower (event_at buf j)) (range_with_len 0 n) ≡ any_lower buf n
+unfolding any_lower
+any-ranged buf zero = refl
+any-ranged buf (suc n) =
+    any-last (λ (j : ℕ). lower (event_at buf j)) 0 n
+    ∙ rw (any-ranged buf n) (ap (λ (k : ℕ). any_lower buf n or lower (event_at buf k)) (omega arith))
+
 -- ---- widths
 
 pub width_bool : {kind : ℕ} → kind ≡ data_bool → width kind ≡ 1
@@ -58,23 +86,48 @@ size-most kind count = go (eqb kind data_bool) (eqb kind data_event)
     go false true = omega arith
     go false false = omega arith
 
+-- ---- checks that the code makes one after the other
+
+unless_and : (code : ℕ) (a b : Bool) → (code unless a and b) ≡ (code unless a then code unless b)
+unfolding ◌and◌ ◌unless◌ ◌then◌
+unless_and code true b = refl
+unless_and code false b = refl
+
+pub fields-listed : (flags index start count : ℕ) → field_checks flags index start count
+    ≡ (Flags unless one_of_three (kind_of flags)
+    then Flags unless one_of_three (action_of flags)
+    then Flags when eqb (kind_of flags) data_event and not (eqb (action_of flags) act_trigger)
+    then Index unless ltb index 4
+    then Flags unless eqb (action_of flags) act_trigger or maskable index
+    then Range when ltb (index_at index).count (start + count)
+    then Empty when eqb count 0 and not (disables flags count))
+unfolding field_checks
+fields-listed flags index start count =
+    rw (unless_and Flags (one_of_three (kind_of flags)) (one_of_three (action_of flags)))
+    (then_assoc (Flags unless one_of_three (kind_of flags)) (Flags unless one_of_three (action_of flags)) _)
+
+pub show-listed : (index line : ℕ) → show_checks index line ≡ (Index unless ltb index 4 then Index unless ltb line (index_at index).count)
+unfolding show_checks
+show-listed index line = unless_and Index (ltb index 4) (ltb line (index_at index).count)
+
 -- ---- what the code has of a request, and what its definitions are then
 
-pub data_checked : (buf : List ℕ) (flags count : ℕ) → flags ≡ flags_of buf → count ≡ count_of buf
-    → data_checks buf ≡ (ArgSize when ltb (argsz_of buf) (data_start + count * width (kind_of flags)) then Value when eqb (kind_of flags) data_event and any_lower buf count)
+pub data-checked : (buf : List ℕ) (kind count : ℕ) → kind ≡ kind_of (flags_of buf) → count ≡ count_of buf
+    → data_checks buf ≡ (ArgSize when ltb (argsz_of buf) (data_start + count * width kind) then Value when eqb kind data_event and any_lower buf count)
 unfolding data_checks
-data_checked buf flags count e f = rw (e, f)
+data-checked buf kind count e f = rw (e, f)
 
-pub range-by : (buf : List ℕ) {flags index start count : ℕ} {whole : Bool} → flags ≡ flags_of buf → index ≡ index_of buf → start ≡ start_of buf → count ≡ count_of buf
-    → whole ≡ disables flags count → (first_line index + pick whole 0 start ≡ range_start buf) × (pick whole (index_at index).count count ≡ range_count buf)
-unfolding range_start range_count
-range-by buf f i s n w = (rw (w, f, i, s, n), rw (w, f, i, n))
+pub disabled-line : (buf : List ℕ) (j : ℕ) (l : Line) → disables (flags_of buf) (count_of buf) ≡ true → changed_line buf j l ≡ off
+unfolding changed_line pick
+disabled-line buf j l h = rw h
 
-pub changed-by : (buf : List ℕ) (flags : ℕ) (whole auto : Bool) (j : ℕ) (l : Line) → flags ≡ flags_of buf → whole ≡ disables flags (count_of buf)
-    → auto ≡ automasked (index_of buf)
-    → changed_line buf j l ≡ pick whole off (pick (eqb (kind_of flags) data_event) (stored (event_at buf j)) (pick (selected buf j) (acted (action_of flags) auto l) l))
-unfolding changed_line
-changed-by buf flags whole auto j l e f g = rw (f, g, e)
+pub changed-by : (buf : List ℕ) (request : Request) (j : ℕ) (l : Line) → AskedBy buf request → disables (flags_of buf) (count_of buf) ≡ false
+    → let kind = data_number request.«data» in
+    changed_line buf j l
+    ≡ pick (eqb kind data_event) (stored (event_at buf j))
+    (pick (not (eqb kind data_bool) or not (eqb (byte_at buf j) 0)) (acted (action_number request.action) (eqb (request.interrupt.flags / 4 % 2) 1) l) l)
+unfolding changed_line selected automasked pick
+changed-by buf request j l asked h = rw (h, ← asked.data_is, ← asked.action_is, ← asked.interrupt_is)
 
 -- ---- what passed checks tell
 
@@ -110,6 +163,44 @@ range-within buf p = go (disables (flags_of buf) (count_of buf))
 pub offset-below : (buf : List ℕ) (j : ℕ) → disables (flags_of buf) (count_of buf) ≡ false → j < range_count buf → j < count_of buf
 unfolding range_count
 offset-below buf j e lt = rw (pick_false _ (index_at (index_of buf)).count (count_of buf) e) at lt
+
+-- ---- the range of a request, by its fields
+
+pub disables-by : (buf : List ℕ) (r : Request) → AskedBy buf r
+    → (eqb (data_number r.«data») data_none and eqb (action_number r.action) act_trigger and eqb r.count 0) ≡ disables (flags_of buf) (count_of buf)
+unfolding disables
+disables-by buf r asked = rw (asked.data_is, asked.action_is, asked.count_is)
+
+module _ (buf : List ℕ) (r : Request) (asked : AskedBy buf r) where
+  pub range-whole : disables (flags_of buf) (count_of buf) ≡ true → (range_start buf ≡ first_line r.index) × (range_count buf ≡ r.interrupt.count)
+  unfolding range_start range_count pick
+  range-whole h = (rw (h, asked.index_is) (omega arith), rw (h, asked.interrupt_is))
+
+  pub range-part : disables (flags_of buf) (count_of buf) ≡ false → (range_start buf ≡ first_line r.index + r.start) × (range_count buf ≡ r.count)
+  unfolding range_start range_count pick
+  range-part h = (rw (h, asked.index_is, asked.start_is), rw (h, asked.count_is))
+
+  module _ (ls : List Line) (room : range_start buf + range_count buf ≤ length ls) where
+    -- the lines of an index that is disabled are filled
+    pub change-whole : disables (flags_of buf) (count_of buf) ≡ true
+        → put_mid (first_line r.index) r.interrupt.count ls (replicate r.interrupt.count off) ≡ changed_lines buf ls
+    unfolding changed_lines
+    change-whole h =
+        let e = range-whole h in
+        let at = first_line r.index in
+        let n = r.interrupt.count in
+        let part = take n (drop at ls) in
+        let all : changed_run (changed_line buf) 0 0 n part ≡ replicate n off =
+        run-filled (changed_line buf) off (λ k l. disabled-line buf k l h) 0 n part (length-take-le n (drop at ls) (omega (arith, e.0, e.1, length-drop at ls))) in
+        rw (← all, e.0, e.1) (run-part (changed_line buf) at n ls (omega (arith, e.0, e.1)))
+
+    -- those of a range are changed one by one
+    pub change-part : disables (flags_of buf) (count_of buf) ≡ false → let at = first_line r.index + r.start in
+        put_mid at r.count ls (changed_run (changed_line buf) 0 0 r.count (take r.count (drop at ls))) ≡ changed_lines buf ls
+    unfolding changed_lines
+    change-part h =
+        let e = range-part h in
+        rw (e.0, e.1) (run-part (changed_line buf) (first_line r.index + r.start) r.count ls (omega (arith, e.0, e.1)))
 
 -- ---- soundness is kept
 

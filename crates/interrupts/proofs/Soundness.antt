@@ -1,26 +1,25 @@
--- Laws of soundness: what the code's loop finds, and that what is done to lines keeps it.
-use Rattle.std.proofs.Common.{◌≡◌, ℕ, zero, suc, ◌+◌, ◌<◌, ◌≤◌, Bool, true, false, not, List, [], ◌∷◌, length, get_or, drop, refl, ap, add-one, arith, drop_of_length-le, drop-cons}
+-- Laws of soundness: what the code finds of all lines, and that what is done to lines keeps it.
+use Rattle.std.proofs.Common.{◌≡◌, ℕ, zero, suc, ◌+◌, ◌<◌, Bool, true, false, not, List, [], ◌∷◌, length, refl, ap, arith}
 use borrow.Author.Tests.{not-true}
+use Rattle.std.specs.List.{list_all}
+use Rattle.std.specs.Prelude.{◌&&◌}
 use Rattle.answer.specs.Tests.{◌and◌, pick}
 use Rattle.answer.proofs.Tests.{and_true, and_made}
 use Rattle.interrupts.specs.declared.Line.{Line}
 use Rattle.interrupts.specs.Lines.{event_number, lower, sound_lines, line_count, stored, off, with_flags, raised, triggered, with_mask, unmasked, disabled_lines}
 use Rattle.interrupts.specs.Requests.{changed_run, acted}
 
--- ---- a pass over the lines
+-- ---- what the code finds of all lines
 
-pub sound-next : (ls : List Line) (i : ℕ) (d : Line) → i < length ls → lower (get_or ls i d).number ≡ false
-    → sound_lines (drop i ls) ≡ sound_lines (drop (i + 1) ls)
-unfolding sound_lines ◌and◌
-sound-next ls i d lt h = rw (drop-cons ls i d lt, h, add-one)
+both : (a b : Bool) → (a && b) ≡ (a and b)
+unfolding ◌and◌
+both true b = refl
+both false b = refl
 
-pub unsound_here : (ls : List Line) (i : ℕ) (d : Line) → i < length ls → lower (get_or ls i d).number ≡ true → sound_lines (drop i ls) ≡ false
-unfolding sound_lines ◌and◌
-unsound_here ls i d lt h = rw (drop-cons ls i d lt, h)
-
-pub sound-end : (ls : List Line) (i : ℕ) → length ls ≤ i → sound_lines (drop i ls) ≡ true
+pub sound-all : (ls : List Line) → list_all (λ (l : Line). not (lower l.number)) ls ≡ sound_lines ls
 unfolding sound_lines
-sound-end ls i h = rw (drop_of_length-le ls h)
+sound-all [] = refl
+sound-all (l ∷ ls) = rw (sound-all ls) (both (not (lower l.number)) (sound_lines ls))
 
 -- ---- what is done to lines
 

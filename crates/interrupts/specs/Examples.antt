@@ -2,8 +2,7 @@
 -- lines it changes (rule 3.27).
 use Rattle.std.specs.Prelude.{◌≡◌, ℕ, ◌-◌, ◌^◌, true, false, List, [], ◌∷◌, ◌++◌, map, replicate}
 use Rattle.answer.specs.Codes.{ArgSize, Flags, Index, Empty, Range, Value}
-use Rattle.answer.specs.declared.Verdict.{Verdict}
-use Rattle.answer.specs.declared.Verdict.TheVariants.{Pass, Fail}
+use Rattle.answer.specs.Checks.{Verdict, Pass, Fail}
 use Rattle.wire.specs.Field.{bytes_of}
 use Rattle.interrupts.specs.declared.Line.{Line}
 use Rattle.interrupts.specs.Lines.{line_count, no_event, stored, off, triggered, with_mask, unmasked}

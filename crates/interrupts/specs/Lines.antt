@@ -4,13 +4,10 @@ use Rattle.std.specs.Prelude.{ℕ, zero, suc, ◌+◌, ◌-◌, ◌/◌, ◌%◌
 use Rattle.std.specs.Int.{w32}
 use Rattle.std.proofs.Common.{to_z}
 use Rattle.answer.specs.Tests.{◌and◌, pick, flagged}
+use Rattle.interrupts.specs.declared.Interrupt.{Interrupt}
 use Rattle.interrupts.specs.declared.Line.{Line}
 
 -- ---- the indices
-
-pub record Interrupt : Type 0 where
-  pub count : ℕ
-  pub flags : ℕ
 
 abbrev pub interrupt : ℕ → ℕ → Interrupt
 interrupt count flags = record { count = count; flags = flags }

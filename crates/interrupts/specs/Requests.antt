@@ -1,11 +1,17 @@
 -- Request 110, which sets lines up and acts on them, by the bytes of its buffer; and what the call that shows a line tries and gives.
-use Rattle.std.specs.Prelude.{ℕ, zero, suc, ◌+◌, ◌*◌, ◌/◌, ◌%◌, Bool, false, not, List, [], ◌∷◌, length, ◌==◌, nat_eq, nat_le, nat_lt, slice_index, slice_index_or}
+use Rattle.std.specs.Prelude.{ℕ, zero, suc, ◌+◌, ◌*◌, ◌/◌, ◌%◌, Bool, false, not, List, [], ◌∷◌, length, ◌==◌, nat_eq, nat_le, nat_lt, slice_index, slice_index_or, ◌≡◌, Result, IfOk}
 use Rattle.answer.specs.Tests.{◌and◌, ◌or◌, pick}
 use Rattle.answer.specs.Codes.{ArgSize, Flags, Index, Empty, Range, Value}
-use Rattle.answer.specs.Checks.{◌then◌, ◌when◌, ◌unless◌}
-use Rattle.answer.specs.declared.Verdict.{Verdict}
+use Rattle.answer.specs.Checks.{Verdict, ◌then◌, ◌when◌, ◌unless◌}
+use Rattle.answer.specs.Answer.{verdict_of}
+use Rattle.answer.specs.declared.Refusal.{Refusal}
 use Rattle.wire.specs.Field.{field}
+use Rattle.interrupts.specs.declared.Action.{Action}
+use Rattle.interrupts.specs.declared.Action.TheVariants.{Mask, Unmask, Trigger}
+use Rattle.interrupts.specs.declared.Data.{Data}
+use Rattle.interrupts.specs.declared.Data.TheVariants.{Nothing, Bytes, Numbers}
 use Rattle.interrupts.specs.declared.Line.{Line}
+use Rattle.interrupts.specs.declared.Request.{Request}
 use Rattle.interrupts.specs.Lines.{indices, index_at, maskable, automasked, first_line, lower, stored, off, triggered, with_mask, unmasked}
 
 -- ---- fields of the buffer (rule 3.26)
@@ -51,9 +57,25 @@ act_unmask = 2
 abbrev pub act_trigger : ℕ
 act_trigger = 4
 
+-- the numbers of the code's names for them
+abbrev pub data_number : Data → ℕ
+data_number Nothing = data_none
+data_number Bytes = data_bool
+data_number Numbers = data_event
+
+abbrev pub action_number : Action → ℕ
+action_number Mask = act_mask
+action_number Unmask = act_unmask
+action_number Trigger = act_trigger
+
 -- rule 3.26: of three bits just one, and none beyond
 unfoldable pub one_of_three : ℕ → Bool
 one_of_three x = nat_eq x 1 or nat_eq x 2 or nat_eq x 4
+
+-- the one name for the bits, or a refusal
+pub record Read {N : Type 0} (number : N → ℕ) (bits : ℕ) (result : Result N Refusal) : Type 0 where
+  pub checks : verdict_of result ≡ (Flags unless one_of_three bits)
+  pub named : IfOk result (λ name. number name ≡ bits)
 
 -- rule 3.27: the bytes of data for each line
 unfoldable pub width : ℕ → ℕ
@@ -100,6 +122,18 @@ unfoldable pub set_checks : List ℕ → Verdict
 set_checks buf =
     field_checks (flags_of buf) (index_of buf) (start_of buf) (count_of buf)
     then data_checks buf
+
+-- what the code has of a request whose fields pass: the names of its flags, and what its index has
+pub record Asks (flags index start count : ℕ) (request : Request) : Type 0 where
+  pub data_is : data_number request.«data» ≡ kind_of flags
+  pub action_is : action_number request.action ≡ action_of flags
+  pub index_is : request.index ≡ index
+  pub interrupt_is : request.interrupt ≡ index_at index
+  pub start_is : request.start ≡ start
+  pub count_is : request.count ≡ count
+
+abbrev pub AskedBy : List ℕ → Request → Type 0
+AskedBy buf request = Asks (flags_of buf) (index_of buf) (start_of buf) (count_of buf) request
 
 -- ---- effect
 

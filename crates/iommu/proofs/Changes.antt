@@ -9,7 +9,7 @@ use lib.ListN.{length, length-append, length-drop}
 use lib.Seq.{take-append_seam}
 use borrow.Author.Tests.{ltb-true, ltb-false, lt-ltb, eqb-false}
 use Rattle.answer.specs.Tests.{◌and◌, pick}
-use Rattle.answer.specs.declared.Verdict.TheVariants.{Pass}
+use Rattle.answer.specs.Checks.{Pass}
 use Rattle.answer.proofs.Tests.{and_made, or_false}
 use Rattle.answer.proofs.Checks.{then_pass, when_pass, unless_pass}
 use Rattle.address.specs.Address.{memory_limit}
@@ -33,8 +33,9 @@ module _ (ms records : List Mapping) where
     unfolding holding
     length-holding = rw (length-append, length-drop) (omega arith)
 
-    pub holding-sound : length ms ≤ capacity → sound_table memory_limit ms ≡ true → Sound (table_of (holding ms records) (length ms))
-    holding-sound few sound = record { few = few; fits = rw length-holding room; table = rw in_use-holding sound }
+    pub holding-sound : length ms ≤ capacity → sound_table memory_limit ms ≡ true
+        → (length ms ≤ length (holding ms records)) × Sound (in_use (table_of (holding ms records) (length ms)))
+    holding-sound few sound = (rw length-holding room, rw in_use-holding (record { few = few; table = sound }))
 
 -- ---- lengths
 

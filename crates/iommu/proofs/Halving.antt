@@ -13,8 +13,8 @@ use Rattle.answer.proofs.Tests.{pick_true, pick_false}
 use Rattle.address.specs.declared.DeviceAddress.{DeviceAddress}
 use Rattle.iommu.specs.declared.Mapping.{Mapping}
 use Rattle.iommu.specs.declared.Search.{Search}
-use Rattle.iommu.specs.Table.{blank, capacity, holds, sound_table, first_past, Placed}
-use Rattle.iommu.specs.Halving.{search, search_of, middle_of, probed, searched, halved, probes_for, HalvingIsShort, Open}
+use Rattle.iommu.specs.Table.{blank, holds, sound_table, first_past, Placed}
+use Rattle.iommu.specs.Halving.{search, search_of, middle_of, probed, searched, halved, probes_for, HalvingIsShort}
 use Rattle.iommu.proofs.Order.{past_bound, past-below, past-above, past-holder, blank-holds, holds-passed}
 
 pub middle_in : (lo hi : ℕ) → lo < hi → (lo ≤ (lo + hi) / 2) × ((lo + hi) / 2 < hi)
@@ -99,35 +99,33 @@ placed-from size ms d (suc fuel) s sound few e a =
     let r = probed (get_or ms (middle_of s) blank) d s in
     placed-next size ms d fuel s sound few e a r (searched fuel ms d r) refl (placed-from size ms d fuel r sound) _ refl
 
-pub searched-placed : (size : ℕ) (ms : List Mapping) (d : DeviceAddress) (count : ℕ) → sound_table size ms ≡ true → length ms ≡ count
-    → Placed ms d (searched count ms d (search_of count)).lo (searched count ms d (search_of count)).held
-searched-placed size ms d count sound n = rw (← n) (placed-from size ms d (length ms) (search_of (length ms)) sound (omega arith) (omega arith) (around_start ms d))
+pub searched-placed : (size : ℕ) (ms : List Mapping) (d : DeviceAddress) → sound_table size ms ≡ true → Placed ms d (halved ms d).lo (halved ms d).held
+unfolding halved
+searched-placed size ms d sound = placed-from size ms d (length ms) (search_of (length ms)) sound (omega arith) (omega arith) (around_start ms d)
 
 -- ---- the search under way
 
--- what was sought is what is left to do from here, with fuel enough
-pub record Seeking (ms : List Mapping) (d : DeviceAddress) (count : ℕ) (s : Search) : Type 0 where
-  pub few : s.hi ≤ count
-  pub probes : s.probes + (s.hi - s.lo) ≤ count
+-- what is sought is what is left to do from here, with fuel enough
+pub record Seeking (ms : List Mapping) (d : DeviceAddress) (s : Search) : Type 0 where
+  pub few : s.hi ≤ length ms
+  pub probes : s.probes + (s.hi - s.lo) ≤ length ms
   pub fuel : ℕ
   pub enough : s.hi - s.lo ≤ fuel
-  pub is : searched count ms d (search_of count) ≡ searched fuel ms d s
+  pub is : halved ms d ≡ searched fuel ms d s
 
-pub seek_start : (ms : List Mapping) (d : DeviceAddress) (count : ℕ) (s : Search) → s ≡ search_of count → Seeking ms d count s
-seek_start ms d count s e = rw e (record { few = omega arith; probes = omega arith; fuel = count; enough = omega arith; is = refl })
+pub seek_start : (ms : List Mapping) (d : DeviceAddress) → Seeking ms d (search_of (length ms))
+unfolding halved
+seek_start ms d = record { few = omega arith; probes = omega arith; fuel = length ms; enough = omega arith; is = refl }
 
-module _ {ms : List Mapping} {d : DeviceAddress} {count : ℕ} {s : Search} (k : Seeking ms d count s) where
-  pub seek_open : count ≤ capacity → s.lo < s.hi → Open s
-  seek_open c h = let f = k.few in let p = k.probes in record { some = h; few = omega arith; short = omega arith }
-
-  pub seek_on : s.lo < s.hi → (at : ℕ) → at ≡ middle_of s → (m : Mapping) → m ≡ get_or ms at blank → (r : Search) → r ≡ probed m d s → Seeking ms d count r
+module _ {ms : List Mapping} {d : DeviceAddress} {s : Search} (k : Seeking ms d s) where
+  pub seek_on : s.lo < s.hi → Seeking ms d (probed (get_or ms (middle_of s) blank) d s)
   unfolding searched
-  seek_on h at ea m em r er = rw (er, em, ea) (go k.fuel k.enough k.is)
+  seek_on h = go k.fuel k.enough k.is
     where
       n : Narrower s (probed (get_or ms (middle_of s) blank) d s)
       n = narrows (get_or ms (middle_of s) blank) d s h
 
-      go : (fuel : ℕ) → s.hi - s.lo ≤ fuel → searched count ms d (search_of count) ≡ searched fuel ms d s → Seeking ms d count (probed (get_or ms (middle_of s) blank) d s)
+      go : (fuel : ℕ) → s.hi - s.lo ≤ fuel → halved ms d ≡ searched fuel ms d s → Seeking ms d (probed (get_or ms (middle_of s) blank) d s)
       go zero e is = absurd (omega arith)
       go (suc fuel) e is =
           let x = n.shorter in
@@ -137,18 +135,29 @@ module _ {ms : List Mapping} {d : DeviceAddress} {count : ℕ} {s : Search} (k :
           let p = k.probes in
           record { few = omega arith; probes = omega arith; fuel = fuel; enough = omega arith; is = is ∙ pick_true _ _ _ (lt-ltb _ _ h) }
 
-  pub seek_end : (size : ℕ) → sound_table size ms ≡ true → length ms ≡ count → s.hi ≤ s.lo → (s ≡ searched count ms d (search_of count)) × Placed ms d s.lo s.held
+  -- by the two tests of the mapping that a probe looks at
+  module _ (h : s.lo < s.hi) where
+    pub seek_found : holds (get_or ms ((s.lo + s.hi) / 2) blank) d ≡ true → Seeking ms d (search ((s.lo + s.hi) / 2) ((s.lo + s.hi) / 2) (s.probes + 1) true)
+    unfolding probed middle_of
+    seek_found e = rw (pick_true {A = Search} _ _ _ e) at (seek_on h)
+
+    pub seek_below : holds (get_or ms ((s.lo + s.hi) / 2) blank) d ≡ false → d.0 < (get_or ms ((s.lo + s.hi) / 2) blank).device.0 → Seeking ms d (search s.lo ((s.lo + s.hi) / 2) (s.probes + 1) false)
+    unfolding probed middle_of
+    seek_below e l = rw (pick_false {A = Search} _ _ _ e, pick_true {A = Search} _ _ _ (lt-ltb _ _ l)) at (seek_on h)
+
+    pub seek_above : holds (get_or ms ((s.lo + s.hi) / 2) blank) d ≡ false → (get_or ms ((s.lo + s.hi) / 2) blank).device.0 ≤ d.0 → Seeking ms d (search ((s.lo + s.hi) / 2 + 1) s.hi (s.probes + 1) false)
+    unfolding probed middle_of
+    seek_above e l = rw (pick_false {A = Search} _ _ _ e, pick_false {A = Search} _ _ _ (le-ltb _ _ l)) at (seek_on h)
+
+  pub seek_end : (size : ℕ) → sound_table size ms ≡ true → s.hi ≤ s.lo → (s ≡ halved ms d) × Placed ms d s.lo s.held
   unfolding searched
-  seek_end size sound n h =
-      let e : searched count ms d (search_of count) ≡ s = k.is ∙ go k.fuel in
-      (sym e, rw e at (searched-placed size ms d count sound n))
+  seek_end size sound h =
+      let e : halved ms d ≡ s = k.is ∙ go k.fuel in
+      (sym e, rw e at (searched-placed size ms d sound))
     where
       go : (fuel : ℕ) → searched fuel ms d s ≡ s
       go zero = refl
       go (suc fuel) = pick_false _ _ _ (le-ltb _ _ h)
-
-pub seek_less : (m : Mapping) (d : DeviceAddress) (s : Search) → s.lo < s.hi → (r : Search) → r ≡ probed m d s → r.hi - r.lo < s.hi - s.lo
-seek_less m d s h r e = rw e (narrows m d s h).shorter
 
 -- ---- the number of probes: at most as many as the number held has binary digits
 
@@ -184,7 +193,7 @@ halving_short ms d digits h = omega (arith, probes-from ms d (length ms) (search
 
 -- ---- the rule over all mappings held
 
--- as it is counted by the code, which has their number
-pub probes-counted : (ms : List Mapping) (d : DeviceAddress) (count : ℕ) → length ms ≡ count → (s : Search) → s ≡ searched count ms d (search_of count) → s.probes ≡ probes_for ms d
-unfolding probes_for halved
-probes-counted ms d count n s e = rw (e, ← n) refl
+-- as it is counted by the code
+pub probes-counted : (ms : List Mapping) (d : DeviceAddress) (s : Search) → s ≡ halved ms d → s.probes ≡ probes_for ms d
+unfolding probes_for
+probes-counted ms d s e = rw e

@@ -6,6 +6,5 @@ pub mod Order
 pub mod Requests
 pub mod Halving
 pub mod Lows
-pub mod Places
-pub mod Closing
+pub mod Moves
 pub mod Sums

@@ -12,9 +12,7 @@ use Rattle.answer.proofs.Tests.{and_true, and_made}
 use Rattle.address.specs.declared.DeviceAddress.{DeviceAddress}
 use Rattle.address.specs.declared.MemoryAddress.{MemoryAddress}
 use Rattle.iommu.specs.declared.Mapping.{Mapping}
-use Rattle.iommu.specs.declared.Translation.{Translation}
-use Rattle.iommu.specs.declared.Translation.TheVariants.{At, Nowhere}
-use Rattle.iommu.specs.Table.{end, holds, address_in, left_in, shown, translate, valid_rights, sound_mappings_from, sound_table, touches, sticks_out, any_of, overlaps, blocked, removed, insert, without}
+use Rattle.iommu.specs.Table.{Translation, At, Nowhere, end, holds, address_in, left_in, shown, translate, valid_rights, sound_mappings_from, sound_table, touches, sticks_out, any_of, overlaps, blocked, removed, insert, without}
 use Rattle.iommu.proofs.Soundness.{Facts, mapping-facts, sound_split}
 use Rattle.iommu.proofs.Changes.{apart-facts, overlaps_split}
 

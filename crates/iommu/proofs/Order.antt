@@ -14,8 +14,7 @@ use Rattle.answer.proofs.Tests.{and_true, and_made, and_false, and_second, or_fa
 use Rattle.address.specs.Address.{device_offset}
 use Rattle.address.specs.declared.DeviceAddress.{DeviceAddress}
 use Rattle.iommu.specs.declared.Mapping.{Mapping}
-use Rattle.iommu.specs.declared.Translation.TheVariants.{Nowhere}
-use Rattle.iommu.specs.Table.{blank, end, holds, shown, shown_by, translate, sound_mapping, sound_mappings_from, sound_table, touches, inside, begins_in, sticks_out, any_of, overlaps, cuts, blocked, insert, without, total_size, inserted_at, without_run, sizes_between, first_past}
+use Rattle.iommu.specs.Table.{Nowhere, blank, end, holds, shown, shown_by, translate, sound_mapping, sound_mappings_from, sound_table, touches, inside, begins_in, sticks_out, any_of, overlaps, cuts, blocked, insert, without, total_size, inserted_at, without_run, sizes_between, first_past}
 use Rattle.iommu.specs.Requests.{Removes}
 use Rattle.iommu.proofs.Soundness.{mapping-facts, sound_split, sound-at}
 use Rattle.iommu.proofs.Changes.{apart-facts, overlaps_split}
@@ -298,14 +297,6 @@ sticks_behind size low ms d i e h = go (ltb i (length ms)) refl
     go true t = sticks_none (get_or ms i blank) d (omega (arith, begins-from size low ms i e (ltb-true _ _ t)))
     go false t = rw (get_or-eq_default ms blank {n = i} (ltb-false _ _ t)) (sticks_blank d)
 
--- one that does is in the table
-pub sticks_within : (ms : List Mapping) (d : DeviceAddress) (i : ℕ) → sticks_out (get_or ms i blank) d ≡ true → i < length ms
-sticks_within ms d i h = go (ltb i (length ms)) refl
-  where
-    go : (s : Bool) → ltb i (length ms) ≡ s → i < length ms
-    go true t = ltb-true _ _ t
-    go false t = absurd (true≢false (sym h ∙ rw (get_or-eq_default ms blank {n = i} (ltb-false _ _ t)) (sticks_blank d)))
-
 -- it does where it begins before an address and ends past it
 sticks_is : (m : Mapping) (d : DeviceAddress) → d.0 < end m → sticks_out m d ≡ ltb m.device.0 d.0
 unfolding sticks_out holds
@@ -488,13 +479,13 @@ module _ (test : Mapping → Bool) (m : Mapping) (ms : List Mapping) where
   unfolding without total_size without_run sizes_between pick
   removes_nothing out r = record { order = omega arith; end = omega arith; rest = pick_false _ _ _ out ∙ ap (λ (xs : List Mapping). m ∷ xs) r.rest; size = rw out (let q = r.size in omega arith) }
 
--- where the test holds of none, any place does, as the end does
-pub removes-end : (test : Mapping → Bool) (ms : List Mapping) (at : ℕ) → Removes test ms at at → Removes test ms (length ms) (length ms)
+-- where the test holds of none, any place does
+pub removes-any : (test : Mapping → Bool) (ms : List Mapping) (at i : ℕ) → i ≤ length ms → Removes test ms at at → Removes test ms i i
 unfolding without_run sizes_between total_size
-removes-end test ms at r =
+removes-any test ms at i h r =
     let z : at - at ≡ 0 = omega arith in
-    let y : length ms - length ms ≡ 0 = omega arith in
-    record { order = omega arith; end = omega arith; rest = r.rest ∙ take-append-drop at ms ∙ sym (take-append-drop (length ms) ms); size = r.size ∙ rw (z, y) }
+    let y : i - i ≡ 0 = omega arith in
+    record { order = omega arith; end = h; rest = r.rest ∙ take-append-drop at ms ∙ sym (take-append-drop i ms); size = r.size ∙ rw (z, y) }
 
 removes-empty : (test : Mapping → Bool) → Removes test [] 0 0
 unfolding without total_size without_run sizes_between

@@ -1,31 +1,29 @@
 -- Look-up, map and unmap by what was found: the places of addresses, and the records there.
-use Prim.Native.Nat.{ℕ, ◌+◌, ◌-◌, ◌≤◌, ◌<◌}
+use Prim.Native.Nat.{ℕ, ◌+◌, ◌≤◌, ◌<◌}
 use native.Mathlib.Omega.{arith}
 use mathlib.Core.Path.{◌≡◌, refl, sym, ◌∙◌}
-use mathlib.Core.Bool.{Bool, true, false, true≢false}
+use mathlib.Core.Bool.{Bool, true, false, not, true≢false}
 use mathlib.Core.List.{List}
 use lib.Dec.{ltb, eqb}
-use lib.ListN.{length, get_or, length-append, length-drop, get_or-eq_default}
-use lib.Seq.{length-take-le}
-use borrow.Author.Tests.{eqb-true, ltb-true, ltb-false, lt-ltb, le-leb}
+use lib.ListN.{length, get_or, get_or-eq_default}
+use borrow.Author.Tests.{ltb-true, ltb-false, le-leb, lt-ltb, le-ltb}
+use Rattle.std.specs.Prelude.{Ok, Option, None, Some, MatchOption, unwrap_or, option_map}
+use Rattle.std.specs.Slice.{IsItemAt}
+use Rattle.std.proofs.Common.{Bor}
 use Rattle.answer.specs.Tests.{◌and◌, ◌or◌, pick}
-use Rattle.answer.specs.declared.Verdict.{Verdict}
-use Rattle.answer.specs.declared.Verdict.TheVariants.{Pass, Fail}
-use Rattle.answer.proofs.Tests.{and_made, pick_true, pick_false}
-use Rattle.answer.proofs.Checks.{never}
+use Rattle.answer.specs.Codes.{Cuts}
+use Rattle.answer.specs.Checks.{Pass, ◌when◌}
+use Rattle.answer.proofs.Tests.{and_made, and_first, and_second, and_false, or_false, pick_true, pick_false}
 use Rattle.address.specs.Address.{memory_limit, device_offset, in_device_range, in_memory_range}
 use Rattle.address.specs.declared.DeviceAddress.{DeviceAddress}
 use Rattle.iommu.specs.declared.Mapping.{Mapping}
-use Rattle.iommu.specs.declared.Translation.TheVariants.{Nowhere}
-use Rattle.iommu.specs.declared.Search.{Search}
-use Rattle.iommu.specs.declared.Unmap.{Unmap}
-use Rattle.iommu.specs.Table.{blank, holds, shown, shown_by, translate, mapped, in_range, sound_table, sticks_out, overlaps, cuts, blocked, removed, insert, inserted_at, without_run, first_past, Placed}
+use Rattle.iommu.specs.Table.{type1, Nowhere, blank, holds, shown, shown_by, translate, mapped, in_range, sound_table, begins_in, sticks_out, overlaps, cuts, blocked, removed, Placed}
 use Rattle.iommu.specs.Halving.{halved, HalvingFinds}
-use Rattle.iommu.specs.Requests.{map_checks, end_of, refused_unmap, removing_run, Ends, Removes, Plans, Remains}
+use Rattle.iommu.specs.Requests.{map_checks, Maps, Removes, Remains}
 use Rattle.iommu.proofs.Soundness.{Facts, mapping-facts, sound-at}
 use Rattle.iommu.proofs.Changes.{without_total, without-sound, map-passed}
 use Rattle.iommu.proofs.Halving.{searched-placed}
-use Rattle.iommu.proofs.Order.{past_bound, blank-holds, translate-placed, insert-placed, overlaps-placed, sticks_within, cuts-placed, blocked-placed, Rule, past_run, removes-placed, removes-end}
+use Rattle.iommu.proofs.Order.{past_bound, blank-holds, sticks_blank, translate-placed, insert-placed, overlaps-placed, cuts-placed, blocked-placed, Rule, past_run, removes-placed, begins-rule, inside-rule, removes-none, removes-any}
 
 -- ---- look-up
 
@@ -48,7 +46,7 @@ module _ (ms : List Mapping) (d : DeviceAddress) (at : ℕ) (held : Bool) (p : P
 pub halving_finds : HalvingFinds
 unfolding halved
 halving_finds size ms d sound =
-    let p = searched-placed size ms d (length ms) sound refl in
+    let p = searched-placed size ms d sound in
     record { mapping = sym (translate-at ms d _ _ p size sound _ refl); held = sym (mapped_at ms d _ _ p size sound) }
 
 -- what `shown_by` asks of a record in use, and of the blank one
@@ -73,75 +71,93 @@ module _ (size : ℕ) (ms : List Mapping) (d : DeviceAddress) (i : ℕ) (sound :
   pub shown-asks : in_range size m ≡ true
   shown-asks = facts-range shown-facts
 
--- ---- map
+-- ---- map and unmap, by the places that were found
 
-pub overlaps-found : (size : ℕ) (m : Mapping) (ms : List Mapping) (count at : ℕ) (held : Bool) (next : Mapping) → sound_table size ms ≡ true → length ms ≡ count → Placed ms m.device at held → next ≡ get_or ms at blank
-    → overlaps m.device m.size ms ≡ (ltb at count and ltb next.device.0 (m.device.0 + m.size))
-overlaps-found size m ms count at held next sound n p e = rw (e, ← n, p.place) (overlaps-placed size m.device m.size ms sound)
+-- what a look at a place tells: past the last mapping stands a blank one
+module _ (ms : List Mapping) (at : ℕ) (got : Option (Bor Mapping)) (item : IsItemAt ms at got) (r : Bool) where
+  pub looked : (d : DeviceAddress) → MatchOption got (r ≡ false) (λ (m : Bor Mapping). r ≡ sticks_out m.now d) → r ≡ sticks_out (get_or ms at blank) d
+  looked d e = go got (item.4 (omega arith) blank) e
+    where
+      go : (o : Option (Bor Mapping)) → unwrap_or (option_map (λ (m : Bor Mapping). m.now) o) blank ≡ get_or ms at blank → MatchOption o (r ≡ false) (λ (m : Bor Mapping). r ≡ sticks_out m.now d)
+          → r ≡ sticks_out (get_or ms at blank) d
+      go None is e = rw (← is) (e ∙ sym (sticks_blank d))
+      go (Some m) is e = rw (← is) e
 
--- where the checks pass, the place found is the one at which the mapping goes
-pub insert-found : (size room : ℕ) (ms : List Mapping) (m : Mapping) (at : ℕ) (held : Bool) → Placed ms m.device at held → map_checks size room ms m ≡ Pass → inserted_at at m ms ≡ insert m ms
-insert-found size room ms m at held p e =
-    let f = map-passed size room ms m e in
-    rw p.place (sym (insert-placed m ms (mapping-facts size m f.sound).filled f.free))
+  pub looked_below : (end : ℕ) → MatchOption got (r ≡ false) (λ (m : Bor Mapping). r ≡ ltb m.now.device.0 end) → r ≡ (ltb at (length ms) and ltb (get_or ms at blank).device.0 end)
+  looked_below end e = go got item e
+    where
+      go : (o : Option (Bor Mapping)) → IsItemAt ms at o → MatchOption o (r ≡ false) (λ (m : Bor Mapping). r ≡ ltb m.now.device.0 end) → r ≡ (ltb at (length ms) and ltb (get_or ms at blank).device.0 end)
+      go None i e = let l = le-ltb at (length ms) i.3 in and_first _ l (e ∙ sym l)
+      go (Some m) i e = let is : m.now ≡ get_or ms at blank = i.4 (omega arith) blank in and_second (lt-ltb _ _ i.3.0) (rw is at e)
 
--- ---- unmap
+pub overlaps-found : (ms : List Mapping) (m : Mapping) (at : ℕ) (held : Bool) → sound_table memory_limit ms ≡ true → Placed ms m.device at held
+    → overlaps m.device m.size ms ≡ (ltb at (length ms) and ltb (get_or ms at blank).device.0 (m.device.0 + m.size))
+overlaps-found ms m at held sound p = rw p.place (overlaps-placed memory_limit m.device m.size ms sound)
 
--- how many mappings are left
-pub length-without-run : (from to : ℕ) (ms : List Mapping) → from ≤ to → to ≤ length ms → length (without_run from to ms) ≡ length ms - (to - from)
-unfolding without_run
-length-without-run from to ms h e = rw (length-append, length-take-le from ms (omega arith), length-drop) (omega arith)
+-- where the checks pass, the mapping goes to the place of its start
+pub maps-at : (size room : ℕ) (ms : List Mapping) (m : Mapping) (at : ℕ) (held : Bool) → Placed ms m.device at held → Pass ≡ map_checks size room ms m → Maps size room ms m (Ok at)
+maps-at size room ms m at held p e =
+    let f = map-passed size room ms m (sym e) in
+    record {
+      checks = e;
+      place = (rw p.place (past_bound m.device ms), rw p.place (insert-placed m ms (mapping-facts size m f.sound).filled f.free));
+    }
 
--- the end of a range that lies below 2^48
-pub end_is : (d : DeviceAddress) (n : ℕ) → in_device_range d n ≡ true → end_of d n ≡ device_offset d n
-unfolding end_of
-end_is d n h = pick_true _ _ _ h
+module _ {ms : List Mapping} {d : DeviceAddress} (n : ℕ) {from to : ℕ} {held held' : Bool}
+    (sound : sound_table memory_limit ms ≡ true) (first : Placed ms d from held) (last : Placed ms (device_offset d n) to held') where
+  pub cuts-found : cuts d n ms ≡ (sticks_out (get_or ms from blank) d or sticks_out (get_or ms to blank) (device_offset d n))
+  cuts-found = rw (first.place, last.place) (cuts-placed memory_limit d n ms sound)
 
-module _ {ms : List Mapping} {d : DeviceAddress} {n count : ℕ} {first : Search} {x : Mapping} {last : Search} {y : Mapping} (h : Ends ms d n count first x last y) (in_range : in_device_range d n ≡ true) where
-  past-place : last.lo ≡ first_past (device_offset d n) ms
-  past-place = rw (end_is d n in_range) at h.past.place
-
-  pub cuts-found : cuts d n ms ≡ (sticks_out x d or sticks_out y (end_of d n))
-  cuts-found = rw (h.at-start, h.at-past, end_is d n in_range, past-place, h.start.place) (cuts-placed memory_limit d n ms h.sound)
-
-  pub blocked-found : blocked d ms ≡ sticks_out x d
-  blocked-found = rw (h.at-start, h.start.place) (blocked-placed memory_limit d ms h.sound)
+  pub blocked-found : blocked d ms ≡ sticks_out (get_or ms from blank) d
+  blocked-found = rw first.place (blocked-placed memory_limit d ms sound)
 
   -- by either rule, where no mapping blocks: up to the range's end, and one more where that goes too
-  module _ {astride : Bool} {test : Mapping → Bool} (rule : Rule d n astride test) (free : sticks_out x d ≡ false) where
-    run-found : Removes test ms first.lo (last.lo + pick (astride and sticks_out y (end_of d n)) 1 0)
+  module _ {astride : Bool} {test : Mapping → Bool} (rule : Rule d n astride test) (free : sticks_out (get_or ms from blank) d ≡ false) where
+    run-found : Removes test ms from (to + pick (astride and sticks_out (get_or ms to blank) (device_offset d n)) 1 0)
     unfolding past_run
-    run-found = rw (h.at-past, end_is d n in_range, past-place, h.start.place) (removes-placed d n astride test rule memory_limit ms h.sound (blocked-found ∙ free))
+    run-found = rw (last.place, first.place) (removes-placed d n astride test rule memory_limit ms sound (blocked-found ∙ free))
 
-    pub removes-found : (astride and sticks_out y (end_of d n)) ≡ false → Removes test ms first.lo last.lo
+    pub removes-found : (astride and sticks_out (get_or ms to blank) (device_offset d n)) ≡ false → Removes test ms from to
     removes-found e =
-        let r : Removes test ms first.lo (last.lo + 0) = rw (pick_false {A = ℕ} _ 1 0 e) at run-found in
-        let z : last.lo + 0 ≡ last.lo = omega arith in
+        let r : Removes test ms from (to + 0) = rw (pick_false {A = ℕ} _ 1 0 e) at run-found in
+        let z : to + 0 ≡ to = omega arith in
         rw z at r
 
-    pub removes-one_more : (astride and sticks_out y (end_of d n)) ≡ true → Removes test ms first.lo (last.lo + 1)
+    pub removes-one_more : (astride and sticks_out (get_or ms to blank) (device_offset d n)) ≡ true → Removes test ms from (to + 1)
     removes-one_more e = rw (pick_true {A = ℕ} _ 1 0 e) at run-found
 
-  -- the place behind the mapping that ends past the range
-  pub behind-found : sticks_out y (end_of d n) ≡ true → pick (ltb last.lo count) (last.lo + 1) last.lo ≡ last.lo + 1
-  behind-found sticks = pick_true _ _ _ (lt-ltb last.lo count (rw (← h.long) (sticks_within ms (end_of d n) last.lo (rw h.at-past at sticks))))
+  -- what goes by the IOMMU type, where the mappings at both ends stick out or not
+  module _ (kind : ℕ) where
+    module _ (one : eqb kind type1 ≡ true) where
+      pub uncut : Pass ≡ (Cuts when not (eqb kind type1) and cuts d n ms)
+      unfolding ◌when◌ ◌and◌
+      uncut = rw one
 
-module _ {v : Verdict} {test : Mapping → Bool} {ms : List Mapping} where
-  pub plans_refused : {r : Unmap} {code : ℕ} → v ≡ Fail code 0 → r ≡ refused_unmap code → Plans v test ms r
-  plans_refused {r} {code} e is = rw is (record { checks = sym e; range = λ h. never code 0 h })
+      pub blocked-run : sticks_out (get_or ms from blank) d ≡ true → Removes (removed kind ms d n) ms from from
+      unfolding removed pick
+      blocked-run e =
+          let b : blocked d ms ≡ true = blocked-found ∙ e in
+          rw (one, b) (removes-any _ ms 0 from (rw first.place (past_bound d ms)) (removes-none ms))
 
-  -- where the places are one, the count stands for both
-  removing-range : (count from to : ℕ) (one : Bool) → eqb from to ≡ one → length ms ≡ count → Removes test ms from to → v ≡ Pass
-      → Plans v test ms (pick one (record { verdict = Pass; from = count; to = count }) (record { verdict = Pass; from = from; to = to }))
-  unfolding pick
-  removing-range count from to true t long h e =
-      let l : Removes test ms from from = rw (sym (eqb-true from to t)) at h in
-      record { checks = sym e; range = λ _. rw (← long) (removes-end test ms from l) }
-  removing-range count from to false t long h e = record { checks = sym e; range = λ _. h }
+      module _ (free : sticks_out (get_or ms from blank) d ≡ false) where
+        begins : removed kind ms d n ≡ begins_in d n
+        unfolding removed pick
+        begins = let b : blocked d ms ≡ false = blocked-found ∙ free in rw (one, b)
 
-  pub plans_removing : {r : Unmap} {count from to : ℕ} → v ≡ Pass → length ms ≡ count → Removes test ms from to → r ≡ removing_run count from to → Plans v test ms r
-  unfolding removing_run
-  plans_removing {r} {count} {from} {to} e long h is = rw is (removing-range count from to _ refl long h e)
+        pub reaching-run : sticks_out (get_or ms to blank) (device_offset d n) ≡ true → Removes (removed kind ms d n) ms from (to + 1)
+        reaching-run e = rw begins (removes-one_more (begins-rule d n) free (and_made _ _ refl e))
+
+        pub begins-run : sticks_out (get_or ms to blank) (device_offset d n) ≡ false → Removes (removed kind ms d n) ms from to
+        begins-run e = rw begins (removes-found (begins-rule d n) free (sym (and_second refl (sym e))))
+
+    module _ (other : eqb kind type1 ≡ false) where
+      pub cut_is : (not (eqb kind type1) and cuts d n ms) ≡ (sticks_out (get_or ms from blank) d or sticks_out (get_or ms to blank) (device_offset d n))
+      unfolding ◌and◌
+      cut_is = rw other cuts-found
+
+      pub inside-run : (sticks_out (get_or ms from blank) d or sticks_out (get_or ms to blank) (device_offset d n)) ≡ false → Removes (removed kind ms d n) ms from to
+      unfolding removed pick
+      inside-run e = rw other (removes-found (inside-rule d n) (or_false _ _ e).0 (and_false _ _ refl))
 
 -- ---- both rules at once
 

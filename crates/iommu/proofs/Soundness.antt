@@ -7,6 +7,7 @@ use mathlib.Core.Bool.{Bool, true, false}
 use mathlib.Core.List.{List, [], ◌∷◌}
 use lib.Dec.{leb}
 use lib.ListN.{length, get_or, drop}
+use lib.Seq.{length-take-le}
 use borrow.Author.Tests.{leb-true, ltb-true, le-leb, lt-ltb}
 use Rattle.answer.specs.Tests.{◌and◌, pick}
 use Rattle.answer.proofs.Tests.{and_true, and_made}
@@ -72,15 +73,16 @@ sound-wider size size' low low' (m ∷ ms) longer lower e =
     (facts-mapping size' m (record { aligned = f.aligned; filled = f.filled; some = f.some; few = f.few; below = f.below; within = omega arith }))
     (sound-wider size size' (end m) (end m) ms longer (omega arith) p.2)
 
--- the table is sound for every function below, where `sound` says so of it and of a memory of the given length
-pub sound-table : (t : Table) (size : ℕ) → (leb (length t.entries) capacity and leb t.count (length t.entries) and sound_table size (in_use t)) ≡ true → size ≤ memory_limit → Sound t
-unfolding sound_table
+-- where `sound` says so of the records in use and of a memory of the given length, they fit those lent, and are sound for every function below
+pub sound-table : (t : Table) (size : ℕ) → (leb (length t.entries) capacity and leb t.count (length t.entries) and sound_table size (in_use t)) ≡ true → size ≤ memory_limit
+    → (t.count ≤ length t.entries) × Sound (in_use t)
+unfolding sound_table in_use
 sound-table t size e h =
     let p = and_true _ _ e in
     let q = and_true _ _ p.0 in
     let room = leb-true (length t.entries) capacity q.0 in
     let fits = leb-true t.count (length t.entries) q.1 in
-    record { few = omega (arith, room, fits); fits = fits; table = sound-wider size memory_limit 0 0 (in_use t) h (omega arith) p.1 }
+    (fits, record { few = omega (arith, room, fits, length-take-le t.count t.entries fits); table = sound-wider size memory_limit 0 0 (in_use t) h (omega arith) p.1 })
 
 -- each of its mappings is sound
 pub sound-at : (size low : ℕ) (ms : List Mapping) (i : ℕ) (blank : Mapping) → sound_mappings_from size low ms ≡ true → i < length ms → Facts size (get_or ms i blank)

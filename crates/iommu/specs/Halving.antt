@@ -4,7 +4,7 @@ use Rattle.answer.specs.Tests.{pick}
 use Rattle.address.specs.declared.DeviceAddress.{DeviceAddress}
 use Rattle.iommu.specs.declared.Mapping.{Mapping}
 use Rattle.iommu.specs.declared.Search.{Search}
-use Rattle.iommu.specs.Table.{capacity, blank, holds, shown_by, translate, mapped, sound_table}
+use Rattle.iommu.specs.Table.{blank, holds, shown_by, translate, mapped, sound_table}
 
 abbrev pub search : ℕ → ℕ → ℕ → Bool → Search
 search lo hi probes held = record { lo = lo; hi = hi; probes = probes; held = held }
@@ -47,9 +47,3 @@ HalvingFinds = (size : ℕ) (ms : List Mapping) (d : DeviceAddress) → sound_ta
 -- and it looks at no more places than the number held has binary digits: 7 for 64, 13 for 4,096.
 abbrev pub HalvingIsShort : Type 0
 HalvingIsShort = (ms : List Mapping) (d : DeviceAddress) (digits : ℕ) → length ms < 2 ^ digits → probes_for ms d ≤ digits
-
--- a search that has places left, of so few that no sum leaves 64 bits
-pub record Open (s : Search) : Type 0 where
-  pub some : s.lo < s.hi
-  pub few : s.hi ≤ capacity
-  pub short : s.probes ≤ capacity

@@ -1,16 +1,15 @@
 -- The checks of look-up, map and unmap, each list in the order of its rule.
-use Rattle.std.specs.Prelude.{ℕ, ◌+◌, ◌≤◌, ◌≡◌, Bool, true, not, List, ltb, eqb, length, get_or}
-use Rattle.answer.specs.Tests.{◌and◌, pick}
+use Rattle.std.specs.Prelude.{ℕ, ◌+◌, ◌≤◌, ◌≡◌, Bool, true, not, List, ltb, eqb, length, Result, IfOk}
+use Rattle.answer.specs.Tests.{◌and◌}
 use Rattle.answer.specs.Codes.{Flags, Unaligned, Empty, Range, Overlap, NoRoom, Cuts, Unmapped}
-use Rattle.answer.specs.Checks.{◌then◌, ◌when◌, ◌unless◌}
-use Rattle.answer.specs.declared.Verdict.{Verdict}
-use Rattle.answer.specs.declared.Verdict.TheVariants.{Pass, Fail}
-use Rattle.address.specs.Address.{device_limit, memory_limit, device_offset, aligned, in_device_range}
+use Rattle.answer.specs.Checks.{Verdict, ◌then◌, ◌when◌, ◌unless◌}
+use Rattle.answer.specs.Answer.{verdict_of}
+use Rattle.answer.specs.declared.Refusal.{Refusal}
+use Rattle.address.specs.Address.{device_limit, aligned, in_device_range}
 use Rattle.address.specs.declared.DeviceAddress.{DeviceAddress}
 use Rattle.iommu.specs.declared.Mapping.{Mapping}
-use Rattle.iommu.specs.declared.Search.{Search}
-use Rattle.iommu.specs.declared.Unmap.{Unmap}
-use Rattle.iommu.specs.Table.{type1, is_iommu_type, blank, translate, mapped, valid_rights, aligned_mapping, in_range, sound_table, overlaps, cuts, removed, without, total_size, without_run, sizes_between, Placed}
+use Rattle.iommu.specs.declared.Run.{Run}
+use Rattle.iommu.specs.Table.{type1, is_iommu_type, translate, mapped, valid_rights, aligned_mapping, in_range, sound_table, overlaps, cuts, removed, insert, inserted_at, without, total_size, without_run, sizes_between}
 
 -- rule 4.1: look-up tries 9 and then 14, both at place 0
 unfoldable pub translate_checks : List Mapping → DeviceAddress → Verdict
@@ -41,26 +40,12 @@ unmap_checks kind ms flags d n =
     then Range unless in_device_range d n
     then Cuts when not (eqb kind type1) and cuts d n ms
 
--- ---- what the code of unmap is stated with
+-- ---- what the code is stated with
 
--- one past the last of the `n` device addresses from `d` on; of a range past 2^48, which is refused, its start
-unfoldable pub end_of : DeviceAddress → ℕ → DeviceAddress
-end_of d n = pick (in_device_range d n) (device_offset d n) d
-
-abbrev pub refused_unmap : ℕ → Unmap
-refused_unmap code = record { verdict = Fail code 0; from = 0; to = 0 }
-
-unfoldable pub removing_run : ℕ → ℕ → ℕ → Unmap
-removing_run count from to = pick (eqb from to) (record { verdict = Pass; from = count; to = count }) (record { verdict = Pass; from = from; to = to })
-
--- what was found in a table for a range's start and for its end: the places, and the mappings there
-pub record Ends (ms : List Mapping) (d : DeviceAddress) (n count : ℕ) (first : Search) (x : Mapping) (last : Search) (y : Mapping) : Type 0 where
-  pub sound : sound_table memory_limit ms ≡ true
-  pub long : length ms ≡ count
-  pub start : Placed ms d first.lo first.held
-  pub at-start : x ≡ get_or ms first.lo blank
-  pub past : Placed ms (end_of d n) last.lo last.held
-  pub at-past : y ≡ get_or ms last.lo blank
+-- the checks of a map, and the place of the new mapping where they pass
+pub record Maps (size room : ℕ) (ms : List Mapping) (m : Mapping) (r : Result ℕ Refusal) : Type 0 where
+  pub checks : verdict_of r ≡ map_checks size room ms m
+  pub place : IfOk r (λ at. (at ≤ length ms) × (insert m ms ≡ inserted_at at m ms))
 
 -- the mappings of which the test holds stand side by side: those from `from` up to but not including `to`
 pub record Removes (test : Mapping → Bool) (ms : List Mapping) (from to : ℕ) : Type 0 where
@@ -70,12 +55,12 @@ pub record Removes (test : Mapping → Bool) (ms : List Mapping) (from to : ℕ)
   pub size : total_size test ms ≡ sizes_between from to ms
 
 -- the verdict of an unmap, and where it passes the run of those mappings
-pub record Plans (v : Verdict) (test : Mapping → Bool) (ms : List Mapping) (r : Unmap) : Type 0 where
-  pub checks : r.verdict ≡ v
-  pub range : r.verdict ≡ Pass → Removes test ms r.from r.to
+pub record Plans (v : Verdict) (test : Mapping → Bool) (ms : List Mapping) (r : Result Run Refusal) : Type 0 where
+  pub checks : verdict_of r ≡ v
+  pub range : IfOk r (λ run. Removes test ms run.from run.to)
 
 -- the checks of an unmap under either rule, and what it removes
-abbrev pub Unmaps : ℕ → List Mapping → ℕ → DeviceAddress → ℕ → Unmap → Type 0
+abbrev pub Unmaps : ℕ → List Mapping → ℕ → DeviceAddress → ℕ → Result Run Refusal → Type 0
 Unmaps kind ms flags d n r = Plans (unmap_checks kind ms flags d n) (removed kind ms d n) ms r
 
 -- rules 3.20 and 3.25, both at once: what an unmap leaves of a sound table is sound, so in order and apart; and the sizes that it reports and

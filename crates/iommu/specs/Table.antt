@@ -1,12 +1,11 @@
 -- The mapping table, as the list of its records in use (rule 1.8): what look-up, map, unmap and soundness say of it.
-use Rattle.std.specs.Prelude.{ℕ, suc, ◌+◌, ◌-◌, ◌/◌, ◌%◌, ◌≤◌, Bool, true, false, not, ◌≡◌, List, [], ◌∷◌, ◌++◌, leb, ltb, eqb, length, take, drop, get_or}
+use Rattle.std.specs.Prelude.{ℕ, suc, ◌+◌, ◌-◌, ◌/◌, ◌%◌, ◌≤◌, Bool, true, false, not, ◌≡◌, List, [], ◌∷◌, ◌++◌, leb, ltb, eqb, length, take, drop, get_or, Option, None, Some}
 use Rattle.answer.specs.Tests.{◌and◌, ◌or◌, pick}
 use Rattle.address.specs.Address.{memory_limit, memory_offset, aligned, in_device_range, in_memory_range}
 use Rattle.address.specs.declared.DeviceAddress.{DeviceAddress}
 use Rattle.address.specs.declared.MemoryAddress.{MemoryAddress}
 use Rattle.iommu.specs.declared.Mapping.{Mapping}
-use Rattle.iommu.specs.declared.Translation.{Translation}
-use Rattle.iommu.specs.declared.Translation.TheVariants.{At, Nowhere}
+use Rattle.iommu.specs.declared.Target.{Target}
 
 -- rule 1.8: how many records are lent at most
 abbrev pub capacity : ℕ
@@ -32,6 +31,17 @@ abbrev pub end : Mapping → ℕ
 end m = m.device.0 + m.size
 
 -- ---- look-up
+
+-- What a device address stands for: where its byte lies in memory, with which rights, and how many bytes its mapping shows from there on; or
+-- nothing.
+pub data Translation : Type 0 where
+  At : MemoryAddress → ℕ → ℕ → Translation
+  Nowhere : Translation
+
+-- the same, by what the code gives
+abbrev pub translation_of : Option Target → Translation
+translation_of None = Nowhere
+translation_of (Some t) = At t.address t.rights t.left
 
 -- rule 1.8: the mapping shows a device address
 unfoldable pub holds : Mapping → DeviceAddress → Bool
@@ -182,17 +192,12 @@ in_use t = take t.count t.entries
 unfoldable pub holding : List Mapping → List Mapping → List Mapping
 holding ms records = ms ++ drop (length ms) records
 
--- what functions below refusal 1 may ask of a table: no sum over its records in use leaves 64 bits
-pub record Sound (t : Table) : Type 0 where
-  pub few : t.count ≤ capacity
-  pub fits : t.count ≤ length t.entries
-  pub table : sound_table memory_limit (in_use t) ≡ true
+-- what functions below refusal 1 may ask of the mappings: no sum over them leaves 64 bits
+pub record Sound (ms : List Mapping) : Type 0 where
+  pub few : length ms ≤ capacity
+  pub table : sound_table memory_limit ms ≡ true
 
 -- ---- what passes over the records are stated with
-
--- where the record behind `m` may begin; past every device address where `m` is not sound, or begins below `low`
-unfoldable pub next_low : ℕ → ℕ → Mapping → ℕ
-next_low size low m = pick (leb low m.device.0 and sound_mapping size m) (end m) 18446744073709551615
 
 -- how many mappings, of those in front, end at a device address or before it
 unfoldable pub first_past : DeviceAddress → List Mapping → ℕ

@@ -1,24 +1,23 @@
-// The mapping table of an IOMMU: records that the caller lends, of which the first `count` are in use, by rising device address. The others
-// are stale: they are not looked at, and change only where they are put to use.
-#![tactic(auto)]
+// The mapping table of an IOMMU: records that the caller lends, of which the first ones are in use, by rising device address. The others are
+// stale: they are not looked at, and change only where they are put to use.
+#![tactic(auto, using(answer::proofs::Checks::decides, answer::proofs::Checks::goes_on, answer::proofs::Tests::and_first, answer::proofs::Tests::and_second), unfolding(crate::specs::Table::valid_rights, crate::specs::Table::aligned_mapping, crate::specs::Table::sound_mapping, crate::specs::Table::holds, crate::specs::Table::sticks_out, crate::specs::Requests::set_iommu_checks, crate::specs::Requests::map_checks, crate::specs::Requests::unmap_checks))]
 
-ghost use Rattle.std.specs.Prelude.{◌≡◌, true, false, not, List, ◌+◌, ◌-◌, ◌≤◌, ◌<◌, leb, ltb, length, get_or};
-ghost use Rattle.answer.specs.Tests.{◌and◌, pick};
-ghost use Rattle.answer.specs.Codes.{Cuts};
-ghost use Rattle.answer.specs.Checks.{◌when◌};
-ghost use Rattle.answer.specs.declared.Verdict.TheVariants.{Pass};
-ghost use Rattle.address.specs.Address.{device_limit, memory_limit, aligned, in_device_range};
-ghost use Rattle.iommu.specs.Table.{capacity, is_iommu_type, blank, holds as held, valid_rights, aligned_mapping, in_range, sound_mapping, sound_table, next_low, shown_by, inside, begins_in, sticks_out, cuts, blocked, table_of, in_use, holding, inserted_at, without_run, sizes_between, Sound, Placed};
-ghost use Rattle.iommu.specs.Halving.{search_of, middle_of, probed, searched, Open};
-ghost use Rattle.iommu.specs.Requests.{set_iommu_checks, map_checks, end_of, refused_unmap, removing_run, Ends, Plans, Unmaps};
+ghost use Rattle.std.specs.Prelude.{◌≡◌, true, ◌+◌, ◌-◌, ◌≤◌, ◌<◌, leb, length, get_or};
+ghost use Rattle.answer.specs.Tests.{◌and◌};
+ghost use Rattle.answer.specs.Answer.{verdict_of};
+ghost use Rattle.address.specs.Address.{memory_limit};
+ghost use Rattle.iommu.specs.Table.{capacity, translation_of, is_iommu_type, blank, holds as held, valid_rights, aligned_mapping, in_range, sound_mapping, sound_table, shown_by, sticks_out, table_of, in_use, holding, inserted_at, without_run, sizes_between, Sound, Placed};
+ghost use Rattle.iommu.specs.Halving.{halved};
+ghost use Rattle.iommu.specs.Requests.{set_iommu_checks, Maps, Unmaps};
 
 use address::{DeviceAddress, MemoryAddress};
-use answer::Verdict;
+use answer::{Reason, Refusal};
 
 // The most records that may be lent.
 pub const CAPACITY: usize = 4096;
 
-// The IOMMU types of a container, which differ in what an unmap removes.
+// The IOMMU types of a container, which differ in what an unmap removes. They stay numbers, as the kept state and requests carry them: any may
+// stand there.
 pub const TYPE1: u32 = 1;
 
 pub const TYPE1V2: u32 = 3;
@@ -33,16 +32,17 @@ pub struct Mapping {
     pub rights: u32,
 }
 
-// What stands at a device address: where its byte lies in memory, with which rights, and how many bytes its mapping shows from there on, or
-// no mapping.
+// What a device address stands for: where its byte lies in memory, with which rights, and how many bytes its mapping shows from there on.
 #[derive(Clone, Copy)]
-pub enum Translation {
-    At(MemoryAddress, u32, u64),
-    Nowhere,
+pub struct Target {
+    pub address: MemoryAddress,
+    pub rights: u32,
+    pub left: u64,
 }
 
 // A search by halving for a device address: the places from `lo` up to but not including `hi` are left to it, and it has looked at
-// `probes` of them. At its end both are the place of the first record that ends past the address, and `held` says whether that holds it.
+// `probes` of them. At its end both are the place of the first record that ends past the address, and `held` says whether that holds it; the
+// place is one where none does as well, so that it is no `Option`.
 #[derive(Clone, Copy)]
 pub struct Search {
     pub lo: usize,
@@ -51,10 +51,9 @@ pub struct Search {
     pub held: bool,
 }
 
-// What an unmap comes to: its checks, and the places of the first record that goes and of the first behind it that stays.
+// Records that stand side by side: those from place `from` up to but not including `to`.
 #[derive(Clone, Copy)]
-pub struct Unmap {
-    pub verdict: Verdict,
+pub struct Run {
     pub from: usize,
     pub to: usize,
 }
@@ -73,79 +72,43 @@ fn valid_rights(rights: u32) -> bool
     1 <= rights && rights <= 3
 }
 
-// Whether both addresses and the size are multiples of the page size.
-#[tactic(auto, unfolding(crate::specs::Table::aligned_mapping))]
-fn aligned_mapping(m: Mapping) -> bool
-    ensures { result ≡ aligned_mapping m }
-{
-    address::all_aligned(m.memory.0, m.device.0, m.size)
-}
+impl Mapping {
+    // Whether both addresses and the size are multiples of the page size.
+    fn is_aligned(self) -> bool
+        ensures { result ≡ aligned_mapping self }
+    {
+        address::all_aligned(self.memory.0, self.device.0, self.size)
+    }
 
-// Whether a mapping ends at 2^48 or below, and inside a memory of `size` bytes. Memory is asked first: a size that fits it fits the other
-// range by itself, and the compiler leaves that test out.
-fn in_range(size: u64, m: Mapping) -> bool
-    ensures { result ≡ in_range size m }
-{
-    address::in_memory_range(size, m.memory, m.size) && address::in_device_range(m.device, m.size)
-}
+    // Whether it ends at 2^48 or below, and inside a memory of `size` bytes. Memory is asked first: a size that fits it fits the other range
+    // by itself, and the compiler leaves that test out.
+    fn is_in_range(self, size: u64) -> bool
+        ensures { result ≡ in_range size self }
+    {
+        address::in_memory_range(size, self.memory, self.size)
+            && address::in_device_range(self.device, self.size)
+    }
 
-// Whether a mapping passes the checks that the map request makes of it alone.
-fn sound_mapping(m: Mapping, size: u64) -> bool
-    ensures { result ≡ sound_mapping size m }
-{
-    if !aligned_mapping(m) {
-        return false;
+    // Whether it passes the checks that the map request makes of it alone.
+    fn is_sound(self, size: u64) -> bool
+        ensures { result ≡ sound_mapping size self }
+    {
+        self.is_aligned() && 0 < self.size && valid_rights(self.rights) && self.is_in_range(size)
     }
-    if m.size == 0 {
-        return false;
-    }
-    if !valid_rights(m.rights) {
-        return false;
-    }
-    in_range(size, m)
-}
 
-// Where the record behind `m` may begin, if `m` is sound and begins at `low` or later; else a number past every device address.
-fn next_low(low: u64, m: Mapping, size: u64) -> u64
-    ensures { result ≡ next_low size low m }
-{
-    if m.device.0 < low {
-        return 0xffffffffffffffff;
+    // Whether it holds a device address.
+    fn holds(self, d: DeviceAddress) -> bool
+        ensures { result ≡ held self d }
+    {
+        self.device.0 <= d.0 && d.0 - self.device.0 < self.size
     }
-    if !sound_mapping(m, size) {
-        return 0xffffffffffffffff;
-    }
-    m.device.0 + m.size
-}
 
-// What stands past the records in use.
-fn blank_mapping() -> Mapping
-    ensures { result ≡ blank }
-{
-    Mapping {
-        device: DeviceAddress(0),
-        memory: MemoryAddress(0),
-        size: 0,
-        rights: 0,
+    // Whether it begins before a device address that it holds.
+    fn sticks_out(self, d: DeviceAddress) -> bool
+        ensures { result ≡ sticks_out self d }
+    {
+        self.device.0 < d.0 && self.holds(d)
     }
-}
-
-// The record in use at a place; a blank one behind the last.
-pub fn get(records: &[Mapping], count: usize, i: usize) -> Mapping
-    requires { count ≤ length records.now }
-    ensures { result ≡ get_or (in_use (table_of records.now count)) i blank }
-{
-    if i < count {
-        return records[i];
-    }
-    blank_mapping()
-}
-
-// Whether that many records are too many to lend, or too few for a count of records in use.
-fn cannot_hold(room: usize, count: usize) -> bool
-    ensures { result ≡ not (leb room capacity and leb count room) }
-{
-    CAPACITY < room || room < count
 }
 
 // Whether the records in use may be trusted with a memory of `size` bytes. It is asked of any values at all, so the count is tested before
@@ -153,301 +116,134 @@ fn cannot_hold(room: usize, count: usize) -> bool
 pub fn sound(records: &[Mapping], count: usize, size: u64) -> bool
     ensures { result ≡ (leb (length records.now) capacity and leb count (length records.now) and sound_table size (in_use (table_of records.now count))) }
 {
-    if cannot_hold(records.len(), count) {
+    if CAPACITY < records.len() || records.len() < count {
         return false;
     }
-    let mut low: u64 = 0;
-    let mut i: usize = 0;
-    while i < count {
-        low = next_low(low, get(records, count, i), size);
-        if address::DEVICE_LIMIT < low {
+    let mut low = 0;
+    for m in &records[..count] {
+        if m.device.0 < low || !m.is_sound(size) {
             return false;
         }
-        i += 1;
+        low = m.device.0 + m.size;
     }
     true
 }
 
-// Whether a mapping holds a device address.
-fn holds(m: Mapping, d: DeviceAddress) -> bool
-    ensures { result ≡ held m d }
+// The place of a device address among the mappings, by halving. Which records it looks at is a rule, and callers are told their number, so
+// that it is no `binary_search_by`.
+pub fn find(mappings: &[Mapping], d: DeviceAddress) -> Search
+    requires { Sound mappings.now }
+    ensures { (result ≡ halved mappings.now d) × Placed mappings.now d result.lo result.held }
 {
-    m.device.0 <= d.0 && d.0 - m.device.0 < m.size
-}
-
-// A search that has looked at nothing.
-fn whole(count: usize) -> Search
-    ensures { result ≡ search_of count }
-{
-    Search {
-        lo: 0,
-        hi: count,
-        probes: 0,
-        held: false,
-    }
-}
-
-// Whether a search has places left.
-fn searching(s: Search) -> bool
-    ensures { result ≡ ltb s.lo s.hi }
-{
-    s.lo < s.hi
-}
-
-// The place that a search looks at next.
-#[tactic(auto, unfolding(crate::specs::Halving::middle_of))]
-fn middle(s: Search) -> usize
-    requires { Open s }
-    ensures { result ≡ middle_of s }
-{
-    (s.lo + s.hi) / 2
-}
-
-// A search that has looked at the record in its middle: it stops there, or goes on below or above that place.
-fn probe(s: Search, m: Mapping, d: DeviceAddress) -> Search
-    requires { Open s }
-    ensures { result ≡ probed m d s }
-{
-    let at = middle(s);
-    let probes = s.probes + 1;
-    if holds(m, d) {
-        return Search {
-            lo: at,
-            hi: at,
-            probes,
-            held: true,
-        };
-    }
-    if d.0 < m.device.0 {
-        return Search {
-            lo: s.lo,
-            hi: at,
-            probes,
-            held: false,
-        };
+    let mut lo = 0;
+    let mut hi = mappings.len();
+    let mut probes = 0;
+    while lo < hi {
+        let at = (lo + hi) / 2;
+        let m = mappings[at];
+        probes += 1;
+        if m.holds(d) {
+            return Search {
+                lo: at,
+                hi: at,
+                probes,
+                held: true,
+            };
+        }
+        if d.0 < m.device.0 {
+            hi = at;
+        } else {
+            lo = at + 1;
+        }
     }
     Search {
-        lo: at + 1,
-        hi: s.hi,
+        lo,
+        hi,
         probes,
         held: false,
     }
 }
 
-// The place of a device address among the records in use, by halving.
-pub fn find(records: &[Mapping], count: usize, d: DeviceAddress) -> Search
-    requires { Sound (table_of records.now count) }
-    ensures { (result ≡ searched count (in_use (table_of records.now count)) d (search_of count)) × Placed (in_use (table_of records.now count)) d result.lo result.held }
-{
-    let mut s = whole(count);
-    while searching(s) {
-        s = probe(s, get(records, count, middle(s)), d);
-    }
-    s
-}
-
 // What a mapping says of a device address.
-pub fn shown_by(m: Mapping, d: DeviceAddress) -> Translation
+pub fn shown_by(m: Mapping, d: DeviceAddress) -> Option<Target>
     requires { held m d ≡ true → in_range memory_limit m ≡ true }
-    ensures { result ≡ shown_by m d }
+    ensures { translation_of result ≡ shown_by m d }
 {
-    if holds(m, d) {
-        let skip = d.0 - m.device.0;
-        return Translation::At(MemoryAddress(m.memory.0 + skip), m.rights, m.size - skip);
+    if !m.holds(d) {
+        return None;
     }
-    Translation::Nowhere
+    let skip = d.0 - m.device.0;
+    Some(Target {
+        address: MemoryAddress(m.memory.0 + skip),
+        rights: m.rights,
+        left: m.size - skip,
+    })
 }
 
 // The checks of the request that sets a container's IOMMU type, with that many records in use.
-pub fn check_set_iommu(count: usize, kind: u32) -> Verdict
-    ensures { result ≡ set_iommu_checks count kind }
+pub fn check_set_iommu(count: usize, kind: u32) -> Result<(), Refusal>
+    ensures { verdict_of result ≡ set_iommu_checks count kind }
 {
-    if !is_iommu_type(kind) {
-        return Verdict::Fail(answer::FLAGS, 0);
-    }
-    if count != 0 {
-        return Verdict::Fail(answer::FLAGS, 0);
-    }
-    Verdict::Pass
+    Reason::Flags.unless(is_iommu_type(kind) && count == 0)
 }
 
-// Whether the first record that ends past a mapping's start, at place `at` of `count`, shares an address with the mapping.
-fn overlaps(m: Mapping, count: usize, at: usize, next: Mapping) -> bool
-    requires { m.device.0 + m.size ≤ device_limit }
-    ensures { result ≡ (ltb at count and ltb next.device.0 (m.device.0 + m.size)) }
+// The checks of the map request, for a memory of `size` bytes and a table of `room` records, and the place of the new mapping.
+pub fn plan_map(mappings: &[Mapping], size: u64, room: usize, m: Mapping) -> Result<usize, Refusal>
+    requires { Sound mappings.now }
+    ensures { Maps size room mappings.now m result }
 {
-    at < count && next.device.0 < m.device.0 + m.size
+    Reason::Flags.unless(valid_rights(m.rights))?;
+    Reason::Empty.when(m.size == 0)?;
+    Reason::Unaligned.unless(m.is_aligned())?;
+    Reason::Range.unless(m.is_in_range(size))?;
+    // The first that ends past the new one's start shares an address with it, or none does.
+    let at = find(mappings, m.device).lo;
+    let end = m.device.0 + m.size;
+    Reason::Overlap.when(mappings.get(at).is_some_and(|next| next.device.0 < end))?;
+    Reason::NoRoom.unless(mappings.len() < room)?;
+    Ok(at)
 }
 
-// The checks of the map request, for a memory of `size` bytes and a table of `room` records of which `count` are in use. `next` is the
-// record at the place that was found for the mapping's start.
-pub fn check_map(
-    m: Mapping,
-    size: u64,
-    room: usize,
-    count: usize,
-    found: Search,
-    next: Mapping,
-) -> Verdict
-    ensures { (ms : List Mapping) → sound_table memory_limit ms ≡ true → length ms ≡ count → Placed ms m.device found.lo found.held → next ≡ get_or ms found.lo blank → result ≡ map_checks size room ms m }
+// Whether the mapping at a place, if one stands there, begins before a device address that it holds.
+fn sticks_out_at(mappings: &[Mapping], at: usize, d: DeviceAddress) -> bool
+    ensures { result ≡ sticks_out (get_or mappings.now at blank) d }
 {
-    if !valid_rights(m.rights) {
-        return Verdict::Fail(answer::FLAGS, 0);
-    }
-    if m.size == 0 {
-        return Verdict::Fail(answer::EMPTY, 0);
-    }
-    if !aligned_mapping(m) {
-        return Verdict::Fail(answer::UNALIGNED, 0);
-    }
-    if !in_range(size, m) {
-        return Verdict::Fail(answer::RANGE, 0);
-    }
-    if overlaps(m, count, found.lo, next) {
-        return Verdict::Fail(answer::OVERLAP, 0);
-    }
-    if room <= count {
-        return Verdict::Fail(answer::NO_ROOM, 0);
-    }
-    Verdict::Pass
+    mappings.get(at).is_some_and(|m| m.sticks_out(d))
 }
 
-// Whether a range begins and ends on a page.
-fn aligned_range(d: DeviceAddress, n: u64) -> bool
-    ensures { result ≡ (aligned d.0 and aligned n) }
-{
-    address::aligned(d.0) && address::aligned(n)
-}
-
-// One past the last of the `n` device addresses from `d` on; of a range past 2^48, which is refused, its start.
-pub fn end_of(d: DeviceAddress, n: u64) -> DeviceAddress
-    ensures { result ≡ end_of d n }
-{
-    if address::in_device_range(d, n) {
-        return DeviceAddress(d.0 + n);
-    }
-    d
-}
-
-// Whether a mapping begins before a device address that it holds.
-fn sticks_out(m: Mapping, d: DeviceAddress) -> bool
-    ensures { result ≡ sticks_out m d }
-{
-    m.device.0 < d.0 && holds(m, d)
-}
-
-fn refused_unmap(code: u32) -> Unmap
-    ensures { result ≡ refused_unmap code }
-{
-    Unmap {
-        verdict: Verdict::Fail(code, 0),
-        from: 0,
-        to: 0,
-    }
-}
-
-// The records from place `from` up to but not including `to` go. Where none do, both are the count, so that none is moved.
-fn removing(count: usize, from: usize, to: usize) -> Unmap
-    ensures { result ≡ removing_run count from to }
-{
-    if from == to {
-        return Unmap {
-            verdict: Verdict::Pass,
-            from: count,
-            to: count,
-        };
-    }
-    Unmap {
-        verdict: Verdict::Pass,
-        from,
-        to,
-    }
-}
-
-// The place behind that of a record in use; a place with none is its own.
-fn behind(at: usize, count: usize) -> usize
-    ensures { result ≡ pick (ltb at count) (at + 1) at }
-{
-    if at < count {
-        return at + 1;
-    }
-    at
-}
-
-// Under Type1v2 the records inside the range go; one that lies in it in part is refused.
-fn remove_inside(
-    d: DeviceAddress,
-    n: u64,
-    count: usize,
-    first: Search,
-    x: Mapping,
-    last: Search,
-    y: Mapping,
-) -> Unmap
-    ensures { (ms : List Mapping) → in_device_range d n ≡ true → Ends ms d n count first x last y → Plans (Cuts when cuts d n ms) (inside d n) ms result }
-{
-    if sticks_out(x, d) {
-        return refused_unmap(answer::CUTS);
-    }
-    if sticks_out(y, end_of(d, n)) {
-        return refused_unmap(answer::CUTS);
-    }
-    removing(count, first.lo, last.lo)
-}
-
-// Under Type1 the records that begin in the range go whole, the last also where it ends past the range; none does where one begins
-// before the range and holds its start.
-fn remove_beginning(
-    d: DeviceAddress,
-    n: u64,
-    count: usize,
-    first: Search,
-    x: Mapping,
-    last: Search,
-    y: Mapping,
-) -> Unmap
-    ensures { (ms : List Mapping) → in_device_range d n ≡ true → Ends ms d n count first x last y → Plans Pass (pick (blocked d ms) (λ m. false) (begins_in d n)) ms result }
-{
-    if sticks_out(x, d) {
-        return removing(count, count, count);
-    }
-    if sticks_out(y, end_of(d, n)) {
-        return removing(count, first.lo, behind(last.lo, count));
-    }
-    removing(count, first.lo, last.lo)
-}
-
-// The checks of the unmap request by the container's IOMMU type, and the records that go: `first` and `last` are the places found for its
-// range's two ends, and `x` and `y` the records there.
-pub fn check_unmap(
+// The checks of the unmap request in a container of IOMMU type `kind`, and the records that go.
+pub fn plan_unmap(
+    mappings: &[Mapping],
     kind: u32,
     flags: u32,
     d: DeviceAddress,
     n: u64,
-    count: usize,
-    first: Search,
-    x: Mapping,
-    last: Search,
-    y: Mapping,
-) -> Unmap
-    ensures { (ms : List Mapping) → Ends ms d n count first x last y → Unmaps kind ms flags d n result }
+) -> Result<Run, Refusal>
+    requires { Sound mappings.now }
+    ensures { Unmaps kind mappings.now flags d n result }
 {
-    if flags != 0 {
-        return refused_unmap(answer::FLAGS);
-    }
-    if n == 0 {
-        return refused_unmap(answer::EMPTY);
-    }
-    if !aligned_range(d, n) {
-        return refused_unmap(answer::UNALIGNED);
-    }
-    if !address::in_device_range(d, n) {
-        return refused_unmap(answer::RANGE);
-    }
+    Reason::Flags.unless(flags == 0)?;
+    Reason::Empty.when(n == 0)?;
+    Reason::Unaligned.unless(address::aligned(d.0) && address::aligned(n))?;
+    Reason::Range.unless(address::in_device_range(d, n))?;
+    let end = DeviceAddress(d.0 + n);
+    let from = find(mappings, d).lo;
+    let to = find(mappings, end).lo;
+    let at_start = sticks_out_at(mappings, from, d);
+    let at_end = sticks_out_at(mappings, to, end);
     if kind == TYPE1 {
-        return remove_beginning(d, n, count, first, x, last, y);
+        // Those that begin in the range go whole, the last also where it ends past the range; none does where one holds its start.
+        if at_start {
+            return Ok(Run { from, to: from });
+        }
+        if at_end {
+            return Ok(Run { from, to: to + 1 });
+        }
+        return Ok(Run { from, to });
     }
-    remove_inside(d, n, count, first, x, last, y)
+    // Under Type1v2 those inside the range go; one that lies in it in part is refused.
+    Reason::Cuts.when(at_start || at_end)?;
+    Ok(Run { from, to })
 }
 
 // Puts a mapping at a place among the records in use: those from there on move up by one.
@@ -455,49 +251,25 @@ pub fn insert(records: &mut [Mapping], count: usize, at: usize, m: Mapping)
     requires { (at ≤ count) × (count < length records.old) }
     ensures { records.new ≡ holding (inserted_at at m (in_use (table_of records.old count))) records.old }
 {
-    let mut i = count;
-    while at < i {
-        let x = records[i - 1];
-        records[i] = x;
-        i -= 1;
-    }
+    records.copy_within(at..count, at + 1);
     records[at] = m;
 }
 
-// A sum of sizes, with one more.
-fn added(sum: u64, m: Mapping) -> u64
-    requires { sum + m.size ≤ device_limit }
-    ensures { result ≡ sum + m.size }
+// The sum of the sizes of a run of mappings.
+pub fn sizes(mappings: &[Mapping], run: Run) -> u64
+    requires { (Sound mappings.now) × (run.from ≤ run.to) × (run.to ≤ length mappings.now) }
+    ensures { result ≡ sizes_between run.from run.to mappings.now }
 {
-    sum + m.size
+    mappings[run.from..run.to].iter().map(|m| m.size).sum()
 }
 
-// The sum of the sizes of the records from place `from` up to but not including `to`.
-pub fn sizes(records: &[Mapping], count: usize, from: usize, to: usize) -> u64
-    requires { (Sound (table_of records.now count)) × (from ≤ to) × (to ≤ count) }
-    ensures { result ≡ sizes_between from to (in_use (table_of records.now count)) }
+// Removes a run of the records in use: those behind it move down. Records past the new count keep what they held.
+pub fn close(records: &mut [Mapping], count: usize, run: Run)
+    requires { (run.from ≤ run.to) × (run.to ≤ count) × (count ≤ length records.old) }
+    ensures { records.new ≡ holding (without_run run.from run.to (in_use (table_of records.old count))) records.old }
 {
-    let mut sum: u64 = 0;
-    let mut i = from;
-    while i < to {
-        sum = added(sum, get(records, count, i));
-        i += 1;
-    }
-    sum
-}
-
-// Removes the records from place `from` up to but not including `to`: those behind them move down. Records past the new count keep what
-// they held.
-pub fn close(records: &mut [Mapping], count: usize, from: usize, to: usize)
-    requires { (from ≤ to) × (to ≤ count) × (count ≤ length records.old) }
-    ensures { records.new ≡ holding (without_run from to (in_use (table_of records.old count))) records.old }
-{
-    let mut k = from;
-    let mut i = to;
-    while i < count {
-        let m = records[i];
-        records[k] = m;
-        k += 1;
-        i += 1;
+    // An empty run moves nothing.
+    if run.from < run.to {
+        records.copy_within(run.to..count, run.from);
     }
 }

@@ -9,7 +9,7 @@ use lib.Dec.{eqb, ltb}
 use borrow.Author.Tests.{ltb-true, ltb-false, lt-ltb, eq-eqb}
 use Rattle.answer.specs.Tests.{◌and◌, pick}
 use Rattle.answer.specs.Codes.{Unwritten}
-use Rattle.answer.specs.declared.Verdict.TheVariants.{Pass, Fail}
+use Rattle.answer.specs.Checks.{Pass, Fail, ◌when◌, ◌at◌}
 use Rattle.answer.proofs.Checks.{unless_true, unless_false, first_fault_pass, first_fault-at}
 use Rattle.address.specs.Address.{memory_address, memory_offset}
 use Rattle.address.specs.declared.MemoryAddress.{MemoryAddress}
@@ -81,3 +81,12 @@ module _ (shadow : Shadow) (a : MemoryAddress) (n r : ℕ) (is : r ≡ written_r
   pub unwritten_first : r < n → unwritten_in shadow a n ≡ Fail Unwritten r
   unfolding unwritten_in unwritten_at
   unwritten_first h = first_fault-at (λ i. unwritten_at shadow (memory_offset a i)) n r Unwritten 0 h passes-before (unless_false _ _ (run.stop h))
+
+  -- the check of a run, by how many of its bytes are written
+  pub unwritten-by : (Unwritten when ltb r n at r) ≡ unwritten_in shadow a n
+  unfolding ◌when◌ ◌at◌
+  unwritten-by = go (ltb r n) refl
+    where
+      go : (t : Bool) → ltb r n ≡ t → (Unwritten when t at r) ≡ unwritten_in shadow a n
+      go true e = sym (unwritten_first (ltb-true r n e))
+      go false e = sym (unwritten_none (ltb-false r n e))

@@ -2,9 +2,8 @@
 use Rattle.std.specs.Prelude.{ℕ, zero, suc}
 use Rattle.answer.specs.Tests.{pick}
 use Rattle.answer.specs.Codes.{Range, Unwritten}
-use Rattle.answer.specs.Checks.{◌then◌, ◌unless◌, first_fault}
+use Rattle.answer.specs.Checks.{Verdict, ◌then◌, ◌unless◌, first_fault}
 use Rattle.answer.specs.Limits.{length_check}
-use Rattle.answer.specs.declared.Verdict.{Verdict}
 use Rattle.address.specs.Address.{memory_offset, in_memory_range}
 use Rattle.address.specs.declared.MemoryAddress.{MemoryAddress}
 use Rattle.memory.specs.Shadow.{Shadow, initialized}

@@ -1,44 +1,50 @@
 -- Laws of loading: one part, and the loop over the parts.
-use Prim.Native.Nat.{ℕ, zero, suc, ◌+◌, ◌-◌, ◌≤◌, ◌<◌}
+use Prim.Native.Nat.{ℕ, zero, suc, ◌+◌, ◌-◌, ◌^◌, ◌≤◌, ◌<◌}
 use native.Mathlib.Omega.{arith}
 use mathlib.Core.Path.{◌≡◌, refl, sym, ◌∙◌, ap}
-use mathlib.Core.Bool.{Bool, true, false}
+use mathlib.Core.Bool.{Bool, true, false, not}
 use mathlib.Core.List.{List, [], ◌∷◌}
 use mathlib.Core.Option.{Option, none, some}
 use lib.ListN.{length, get_or, set, replicate, length-set, get_or-eq_default}
-use lib.Dec.{eqb, leb}
-use borrow.Author.Tests.{le-ltb}
+use lib.Dec.{eqb, ltb}
+use borrow.Author.Tests.{lt-ltb}
 use Rattle.answer.specs.Tests.{pick, flagged, is_some}
-use Rattle.answer.specs.Codes.{Missing}
-use Rattle.answer.specs.Checks.{◌then◌, ◌when◌, ◌unless◌, ◌at◌}
-use Rattle.answer.specs.Limits.{transfer_limit, length_check}
+use Rattle.answer.specs.Codes.{UnknownPart, Header, Value, Twice, Running, Missing}
+use Rattle.answer.specs.Checks.{Verdict, Pass, Fail, ◌then◌, ◌when◌, ◌unless◌, ◌at◌}
+use Rattle.answer.specs.Limits.{length_check}
 use Rattle.answer.specs.Answer.{Answer, done, refused, settle, ◌onward◌}
-use Rattle.answer.specs.declared.Verdict.TheVariants.{Pass, Fail}
 use Rattle.answer.proofs.Tests.{pick_true, is_false}
-use Rattle.answer.proofs.Checks.{then_pass, unless_pass}
-use Rattle.registers.specs.Rows.{CommonField, QueueConfig, row_count, row_of, size_of, listed, selector_width, status_row}
-use Rattle.registers.specs.File.{current, File, register_value, file_from, register_of, slots_of}
+use Rattle.answer.proofs.Checks.{never, then_pass, unless_pass}
+use Rattle.registers.specs.Rows.{row_count, row_of, kind_of, size_of, selects, listed, selector_width, status_row}
+use Rattle.registers.specs.Values.{content_checks, value_checks}
+use Rattle.registers.specs.File.{File, register_value, file_from, register_of, slots_of}
 use Rattle.registers.specs.declared.Register.{Register}
+use Rattle.registers.specs.declared.Registers.{Registers}
 use Rattle.registers.proofs.Rows.{selected, row_listed}
 use Rattle.registers.proofs.Values.{value-size}
 use Rattle.registers.proofs.File.{absent, set_at, file-set}
-use Rattle.parts.specs.Step.{step_at, value_to}
-use Rattle.parts.specs.Load.{Seen, listed_checks, part_checks, named, taken, finish, on_step, load_from, load, seen_in, loaded_of, from_start}
-use Rattle.parts.specs.declared.Step.{Step}
-use Rattle.parts.specs.declared.Step.TheVariants.{Part, End, Refused}
-use Rattle.parts.proofs.Steps.{step_says}
-
--- a type that uses neither 4 nor 2 selector bytes uses none
-pub width-none : (kind : ℕ) → (selector_width kind ≡ 4 → ⊥) → (selector_width kind ≡ 2 → ⊥) → selector_width kind ≡ 0
-unfolding selector_width pick
-width-none kind = go (eqb kind CommonField) (leb QueueConfig kind)
-  where
-    go : (t u : Bool) → (◌≡◌ {A = ℕ} (pick t 4 (pick u 2 0)) 4 → ⊥) → (◌≡◌ {A = ℕ} (pick t 4 (pick u 2 0)) 2 → ⊥) → ◌≡◌ {A = ℕ} (pick t 4 (pick u 2 0)) 0
-    go true u a b = absurd (a refl)
-    go false true a b = absurd (b refl)
-    go false false a b = refl
+use Rattle.parts.specs.Step.{Step, Part, End, Refused, step_at, value_to}
+use Rattle.parts.specs.Load.{Seen, flags_of, listed_checks, part_checks, named, taken, finish, on_step, load_from, load, seen_in, loaded_of, from_start}
+use Rattle.parts.proofs.Steps.{when_not_at, step_says}
 
 -- ---- one part
+
+-- whether a type is listed, as the code finds it by its number
+pub listed_picks : {A : Type 0} (t : Bool) (x a b : A) → Pass ≡ (UnknownPart unless t) → x ≡ a → x ≡ pick t a b
+unfolding pick
+listed_picks t x a b h e = rw (unless_pass UnknownPart t (sym h)) e
+
+pub unlisted_picks : {A : Type 0} (t : Bool) (x a b : A) (code place : ℕ) → Fail code place ≡ (UnknownPart unless t) → x ≡ b → x ≡ pick t a b
+unfolding pick ◌unless◌
+unlisted_picks true x a b code place h e = never code place h
+unlisted_picks false x a b code place h e = e
+
+-- the checks that are left for a part that names a row
+pub listed-left : (w : ℕ) (twice : Bool) (kind flags selector row : ℕ) (v : List ℕ) → Pass ≡ (Header unless eqb flags (flags_of kind))
+    → Pass ≡ (Header unless ltb selector (256 ^ selector_width kind)) → row ≡ row_of kind selector → row < row_count
+    → (Value unless eqb (length v) (size_of w row) then Twice when twice then content_checks w (kind_of row) v) ≡ listed_checks w twice kind flags selector v
+unfolding listed_checks selects value_checks ◌then◌ ◌unless◌
+listed-left w twice kind flags selector row v f l r lt = rw (← f, ← l, ← r, lt-ltb _ _ lt)
 
 -- what passed checks tell of a part of a listed type
 module _ (w : ℕ) (twice : Bool) (kind flags selector : ℕ) (v : List ℕ) (h : part_checks w twice kind flags selector v ≡ Pass) where
@@ -97,25 +103,32 @@ module _ (w : ℕ) (x : Option (List ℕ)) (slots : List Register) (kind selecto
   named_none long past =
       sym (named-kept (omega arith) ∙ ap (λ (r : Register). flagged r.set) (get_or-eq_default slots absent {n = row_of kind selector - 1} (omega arith)))
 
--- what the code gives for answers that agree
-pub agree : (x y : Answer File) → x ≡ y → loaded_of y ≡ loaded_of x
-agree x y e = ap loaded_of (sym e)
+-- what the code gives for an answer
+pub gives_refusal : (a : Answer File) (code place : ℕ) → a ≡ refused code place → refused code place ≡ loaded_of a
+unfolding loaded_of
+gives_refusal a code place e = rw e
+
+pub gives_registers : (w : ℕ) (a : Answer File) (slots : List Register) → Canonical w slots → a ≡ done (file_from w 1 slots) → done (record { slots = slots }) ≡ loaded_of a
+unfolding loaded_of
+gives_registers w a slots c e = rw e (ap (λ (l : List Register). done (record { slots = l })) c)
 
 -- ---- the end of the stream
 
-module _ (w : ℕ) (x : Option (List ℕ)) (slots : List Register) (p : ℕ) where
-  pub finish-done : is_some (current w (file_from w 1 slots) status_row) ≡ true → finish (seen_in w x slots) p ≡ done (file_from w 1 slots)
-  unfolding finish settle ◌unless◌ ◌at◌ current
-  finish-done h = rw h
-
-  pub finish_missing : is_some (current w (file_from w 1 slots) status_row) ≡ false → finish (seen_in w x slots) p ≡ refused Missing p
-  unfolding finish settle ◌unless◌ ◌at◌ current
-  finish_missing h = rw h
-
 -- the code asks the slot of status
-pub status_named : (w : ℕ) (slots : List Register) → flagged (get_or slots 5 absent).set ≡ is_some (current w (file_from w 1 slots) status_row)
-unfolding current
-status_named w slots = sym (set_at w 1 slots 5)
+module _ (w : ℕ) (x : Option (List ℕ)) (slots : List Register) (p : ℕ) where
+  abbrev unset : Bool
+  unset = not (flagged (get_or slots 5 absent).set)
+
+  named_lem : (Missing unless is_some (get_or (seen_in w x slots) status_row none) at p) ≡ (Missing when unset at p)
+  named_lem = ap (λ (t : Bool). Missing unless t at p) (set_at w 1 slots 5) ∙ sym (when_not_at Missing p _)
+
+  pub finish-done : Pass ≡ (Missing when unset at p) → finish (seen_in w x slots) p ≡ done (file_from w 1 slots)
+  unfolding finish settle
+  finish-done h = ap (λ (v : Verdict). settle v (file_from w 1 slots)) (named_lem ∙ sym h)
+
+  pub finish-fault : (code place : ℕ) → Fail code place ≡ (Missing when unset at p) → finish (seen_in w x slots) p ≡ refused code place
+  unfolding finish settle
+  finish-fault code place h = ap (λ (v : Verdict). settle v (file_from w 1 slots)) (named_lem ∙ sym h)
 
 -- ---- the loop over the parts
 
@@ -214,6 +227,16 @@ module _ (w : ℕ) (s : List ℕ) (p : ℕ) (slots : List Register) (offered : B
 
 -- ---- the checks before the first part
 
-pub load_parts : (w : ℕ) (running : Bool) (s : List ℕ) → running ≡ false → length s ≤ transfer_limit → load w running s ≡ from_start w s
-unfolding load length_check settle ◌onward◌ ◌then◌ ◌when◌
-load_parts w running s e h = rw (e, le-ltb _ _ h)
+pub load_refused : (w : ℕ) (running : Bool) (s : List ℕ) (code place : ℕ) → Fail code place ≡ (Running when running then length_check (length s))
+    → refused code place ≡ loaded_of (load w running s)
+unfolding load loaded_of settle ◌onward◌
+load_refused w running s code place h = rw (← h)
+
+pub load_passes : (w : ℕ) (running : Bool) (s : List ℕ) (x : Answer Registers) → Pass ≡ (Running when running then length_check (length s))
+    → x ≡ loaded_of (from_start w s) → x ≡ loaded_of (load w running s)
+unfolding load settle ◌onward◌
+load_passes w running s x h e = rw (← h) e
+
+pub load_passed : (w : ℕ) (running : Bool) (s : List ℕ) → Pass ≡ (Running when running then length_check (length s)) → load w running s ≡ from_start w s
+unfolding load settle ◌onward◌
+load_passed w running s h = rw (← h)

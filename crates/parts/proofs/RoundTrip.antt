@@ -8,11 +8,12 @@ use mathlib.Core.Option.{Option, none, some}
 use lib.ListN.{length, get_or, set, take, drop, replicate, length-append}
 use lib.Seq.{take_at, take_all, take-suc, append_snoc, set_at as set-seam, get_or_at, length-take-le, drop-append_seam, drop-append-add}
 use lib.Dec.{eqb, ltb, leb}
-use borrow.Author.Tests.{ltb-true, leb-true, eqb-true, eq-eqb, lt-ltb, lt-leb}
+use borrow.Author.Tests.{ltb-true, leb-true, eqb-true, eq-eqb, lt-ltb, le-ltb, lt-leb}
 use Rattle.answer.specs.Tests.{◌and◌, ◌or◌, pick, is_some}
-use Rattle.answer.specs.Checks.{◌then◌, ◌when◌, ◌unless◌, ◌at◌}
+use Rattle.answer.specs.Codes.{Running}
+use Rattle.answer.specs.Checks.{Pass, ◌then◌, ◌when◌, ◌unless◌, ◌at◌}
+use Rattle.answer.specs.Limits.{transfer_limit, length_check}
 use Rattle.answer.specs.Answer.{done, settle, ◌onward◌}
-use Rattle.answer.specs.declared.Verdict.TheVariants.{Pass}
 use Rattle.answer.proofs.Tests.{and_true, below, below_at}
 use Rattle.wire.specs.Field.{field, bytes_of}
 use Rattle.wire.proofs.Laws.{field-bytes}
@@ -24,14 +25,13 @@ use Rattle.registers.proofs.Cards.{card-small}
 use Rattle.registers.proofs.Rows.{size-most, kind_fits, selector-fits, row_of-row}
 use Rattle.registers.proofs.Values.{value-size}
 use Rattle.registers.proofs.File.{current-sound, current-sized, sound-sized}
-use Rattle.parts.specs.Step.{header_size, value_size, part_at, part_step, step_at, value_to}
+use Rattle.parts.specs.Step.{Part, header_size, value_size, part_at, part_step, step_at, value_to}
 use Rattle.parts.specs.Load.{Seen, flags_of, listed_checks, part_checks, named, taken, finish, on_step, load_from, load}
 use Rattle.parts.specs.Save.{encoded, part_of, saved_from, saved}
 use Rattle.parts.specs.RoundTrip.{RoundTrip}
-use Rattle.parts.specs.declared.Step.TheVariants.{Part}
 use Rattle.parts.proofs.Steps.{part-whole, step_end, step_part}
 use Rattle.parts.proofs.Saving.{length-encoded}
-use Rattle.parts.proofs.Loading.{load_parts}
+use Rattle.parts.proofs.Loading.{load_passed}
 
 -- ---- one part, written and read
 
@@ -265,12 +265,17 @@ module _ (w : ℕ) (small : w ≤ word_room) (file : File) (long : length file �
       let one : k ≡ suc (k - 1) = omega arith in
       rw one (row i (omega arith) n (k - 1) pre (current w file i) refl (λ k' pre' l. trip n (suc i) k' pre' (omega arith) l) (omega arith))
 
+  -- a stream that is not too long
+  whole_stream : (s : List ℕ) → length s ≤ transfer_limit → Pass ≡ (Running when false then length_check (length s))
+  unfolding length_check ◌then◌ ◌when◌
+  whole_stream s h = rw (le-ltb _ _ h)
+
   -- What is saved loads again.
   round_trip_lem : load w false (saved w file) ≡ done file
   unfolding saved seen_to
   round_trip_lem =
       let bounds = saved_bounds w file (sound-sized w 1 file all_sound) status_set in
-      load_parts w false (saved w file) refl (omega (arith, bounds.1)) ∙ trip row_count 0 (suc (length (saved w file))) [] refl (omega (arith, bounds.0))
+      load_passed w false (saved w file) (whole_stream (saved w file) (omega (arith, bounds.1))) ∙ trip row_count 0 (suc (length (saved w file))) [] refl (omega (arith, bounds.0))
 
 pub round_trips : RoundTrip
 unfolding RoundTrip

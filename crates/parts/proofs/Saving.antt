@@ -3,14 +3,11 @@ use Prim.Native.Nat.{ℕ, suc, ◌+◌, ◌-◌, ◌*◌, ◌≤◌, ◌<◌}
 use native.Mathlib.Numerals.{add-one}
 use native.Mathlib.Omega.{arith}
 use mathlib.Core.Path.{◌≡◌, refl, sym, ◌∙◌, ap}
-use mathlib.Core.Bool.{Bool, true, false}
+use mathlib.Core.Bool.{true, false}
 use mathlib.Core.List.{List, [], ◌++◌}
 use lib.ListN.{length, take, length-append}
 use lib.Seq.{sets, length-sets, length-take-le, take-add}
-use borrow.Author.Tests.{ltb-false}
-use Rattle.answer.specs.declared.Verdict.TheVariants.{Pass}
 use Rattle.answer.specs.Tests.{flagged}
-use Rattle.answer.proofs.Checks.{then_pass, when_pass}
 use Rattle.wire.specs.Field.{bytes_of, slice}
 use Rattle.wire.proofs.Laws.{length-bytes, sets_then}
 use Rattle.registers.specs.Cards.{word_room}
@@ -21,7 +18,7 @@ use Rattle.registers.proofs.Rows.{size-most}
 use Rattle.registers.proofs.File.{value_set, value-unset, features, features-row, features-whole, features-set}
 use Rattle.parts.specs.Step.{header_size}
 use Rattle.parts.specs.Load.{flags_of}
-use Rattle.parts.specs.Save.{encoded, part_of, saved_from, saved, save_checks}
+use Rattle.parts.specs.Save.{encoded, part_of, saved_from, saved}
 
 -- ---- one part
 
@@ -200,10 +197,3 @@ module _ (w : ℕ) (small : w ≤ word_room) (file : File) (buf₀ buf : List �
                 ∙ sym (sets_then buf part _ p p' (omega (arith, part-long w small file i lt r is whole e)))
                 ∙ ap (λ (l : List ℕ). sets l p' (rest w file (i + 1))) (sym b);
           }
-
--- ---- the checks of saving
-
--- they pass where the buffer has the room
-pub save-room : (w : ℕ) (running : Bool) (file : File) (room : ℕ) → save_checks w running file room ≡ Pass → length (saved w file) ≤ room
-unfolding save_checks
-save-room w running file room h = ltb-false _ _ (when_pass _ _ (then_pass _ _ h).1)

@@ -8,8 +8,7 @@ use mathlib.Core.Option.{some}
 use lib.ListN.{length, set, length-set}
 use Rattle.answer.specs.Tests.{◌and◌, pick}
 use Rattle.answer.specs.Answer.{Answer, done, refused, settle, ◌onward◌, verdict, result_or}
-use Rattle.answer.specs.declared.Verdict.{Verdict}
-use Rattle.answer.specs.declared.Verdict.TheVariants.{Pass, Fail}
+use Rattle.answer.specs.Checks.{Verdict, Pass, Fail}
 use Rattle.answer.proofs.Tests.{and_true, and_made, pick_true}
 use Rattle.answer.proofs.Checks.{never, then_pass, unless_pass, when_pass, at_pass}
 use Rattle.registers.specs.Rows.{row_count, row_of, listed}
@@ -17,10 +16,8 @@ use Rattle.registers.specs.Values.{value_checks}
 use Rattle.registers.specs.File.{File, kept_count, current, sound_values_from, sound_file, file_of, slots_of, sound_value}
 use Rattle.registers.proofs.File.{sound-cons, sound-sized, file-written}
 use Rattle.registers.proofs.Soundness.{sound-set}
-use Rattle.parts.specs.Step.{step_at}
+use Rattle.parts.specs.Step.{Step, Part, End, Refused, step_at}
 use Rattle.parts.specs.Load.{Seen, listed_checks, part_checks, taken, finish, on_step, load_from, load, loaded_of}
-use Rattle.parts.specs.declared.Step.{Step}
-use Rattle.parts.specs.declared.Step.TheVariants.{Part, End, Refused}
 
 -- ---- answers that are results
 
@@ -109,7 +106,7 @@ load-sound w running s file e =
 
 -- ---- what `load` gives
 
-pub loaded-verdict : (a : Answer File) → (loaded_of a).verdict ≡ verdict a
+pub loaded-verdict : (a : Answer File) → verdict (loaded_of a) ≡ verdict a
 unfolding loaded_of verdict
 loaded-verdict (done file) = refl
 loaded-verdict (refused code place) = refl

@@ -1,54 +1,60 @@
 -- Laws of one step over a stream, case by case.
 use Prim.Native.Nat.{ℕ, ◌+◌, ◌-◌, ◌≤◌, ◌<◌}
 use native.Mathlib.Omega.{arith}
-use mathlib.Core.Path.{◌≡◌, refl}
-use mathlib.Core.Bool.{Bool, true, false}
+use mathlib.Core.Path.{◌≡◌, refl, sym, ◌∙◌, ap}
+use mathlib.Core.Bool.{Bool, true, false, not}
 use mathlib.Core.List.{List, []}
 use lib.ListN.{length, take, drop, length-drop}
 use lib.Seq.{take_all}
-use borrow.Author.Tests.{lt-ltb, le-ltb, eq-eqb, ne_eqb, ltb-false}
+use lib.Dec.{ltb}
+use borrow.Author.Tests.{le-ltb, eq-eqb, ne_eqb, ltb-false}
 use Rattle.answer.specs.Tests.{pick}
-use Rattle.answer.specs.Codes.{Truncated, Header}
-use Rattle.answer.specs.Checks.{◌then◌, ◌when◌, ◌unless◌, ◌at◌}
-use Rattle.answer.specs.declared.Verdict.{Verdict}
-use Rattle.answer.specs.declared.Verdict.TheVariants.{Pass, Fail}
-use Rattle.answer.proofs.Checks.{then_pass, when_pass, at_pass}
+use Rattle.answer.specs.Codes.{Truncated}
+use Rattle.answer.specs.Checks.{Verdict, Pass, Fail, ◌then◌, ◌when◌, ◌unless◌, ◌at◌}
+use Rattle.answer.proofs.Checks.{never, then_pass, when_pass, at_pass}
 use Rattle.wire.specs.Field.{field}
-use Rattle.parts.specs.Step.{header_size, value_size, header_checks, part_at, step_on, part_step, step_at, value_to, step_value, value_at}
-use Rattle.parts.specs.declared.Step.{Step}
-use Rattle.parts.specs.declared.Step.TheVariants.{Part, End, Refused}
+use Rattle.parts.specs.Step.{Step, Part, End, Refused, header_size, value_size, header_checks, checks_at, part_at, step_on, part_step, step_at, value_to, step_value, value_at}
+
+-- ---- checks that name their place
+
+pub decides_at : (u v : Verdict) (p code place : ℕ) → Fail code place ≡ (u at p) → Fail code place ≡ ((u then v) at p)
+unfolding ◌then◌ ◌at◌
+decides_at Pass v p code place h = never code place h
+decides_at (Fail c q) v p code place h = h
+
+pub goes_on_at : (u v w : Verdict) (p : ℕ) → Pass ≡ (u at p) → w ≡ (v at p) → w ≡ ((u then v) at p)
+unfolding ◌then◌ ◌at◌
+goes_on_at Pass v w p h k = k
+goes_on_at (Fail c q) v w p h k = never c p (sym h)
+
+pub when_not_at : (code p : ℕ) (t : Bool) → (code when not t at p) ≡ (code unless t at p)
+unfolding ◌when◌ ◌unless◌ ◌at◌
+when_not_at code p true = refl
+when_not_at code p false = refl
+
+-- the code's test for what is wrong, where the definition has one for what is right
+pub tested_at : (code p : ℕ) (t : Bool) (v : Verdict) → v ≡ (code when not t at p) → v ≡ (code unless t at p)
+tested_at code p t v h = h ∙ when_not_at code p t
+
+-- what a check for room tells
+pub room_at : (a b : ℕ) (code p : ℕ) → Pass ≡ (code when ltb a b at p) → b ≤ a
+room_at a b code p h = ltb-false a b (when_pass _ _ (at_pass _ p (sym h)))
 
 -- ---- where something is left
 
-module _ (h : List ℕ) (p : ℕ) where
-  pub part-short : length h < header_size → Refused Truncated p ≡ part_step h p
-  unfolding part_step header_checks step_on ◌then◌ ◌when◌ ◌at◌
-  part-short a = rw (lt-ltb _ _ a)
-
-  module _ (a : header_size ≤ length h) where
-    pub part-flags : 1 < field h 2 1 → Refused Header p ≡ part_step h p
-    unfolding part_step header_checks step_on ◌then◌ ◌when◌ ◌at◌
-    part-flags b = rw (le-ltb _ _ a, lt-ltb _ _ b)
-
-    module _ (b : field h 2 1 ≤ 1) where
-      pub part-reserved : (field h 3 1 ≡ 0 → ⊥) → Refused Header p ≡ part_step h p
-      unfolding part_step header_checks step_on ◌then◌ ◌when◌ ◌unless◌ ◌at◌
-      part-reserved d = rw (le-ltb _ _ a, le-ltb _ _ b, ne_eqb _ _ d)
-
-      module _ (d : field h 3 1 ≡ 0) where
-        pub part-long : length h - header_size < value_size h → Refused Truncated p ≡ part_step h p
-        unfolding part_step header_checks step_on ◌then◌ ◌when◌ ◌unless◌ ◌at◌
-        part-long e = rw (le-ltb _ _ a, le-ltb _ _ b, eq-eqb _ _ d, lt-ltb _ _ e)
-
-        pub part-whole : value_size h ≤ length h - header_size → part_at h p ≡ part_step h p
-        unfolding part_step header_checks step_on ◌then◌ ◌when◌ ◌unless◌ ◌at◌
-        part-whole e = rw (le-ltb _ _ a, le-ltb _ _ b, eq-eqb _ _ d, le-ltb _ _ e)
+pub part-whole : (h : List ℕ) (p : ℕ) → header_size ≤ length h → field h 2 1 ≤ 1 → field h 3 1 ≡ 0 → value_size h ≤ length h - header_size → part_at h p ≡ part_step h p
+unfolding part_step header_checks step_on ◌then◌ ◌when◌ ◌unless◌ ◌at◌
+part-whole h p a b d e = rw (le-ltb _ _ a, le-ltb _ _ b, eq-eqb _ _ d, le-ltb _ _ e)
 
 -- ---- at a place of the stream
 
-pub step_past : (s : List ℕ) (p : ℕ) → length s < p → Refused Truncated p ≡ step_at s p
-unfolding step_at pick
-step_past s p h = rw (lt-ltb _ _ h)
+pub step_past : (s : List ℕ) (p code place : ℕ) → Fail code place ≡ (Truncated when ltb (length s) p at p) → Refused code place ≡ step_at s p
+unfolding step_at pick ◌when◌ ◌at◌
+step_past s p code place = go (ltb (length s) p) _
+  where
+    go : (t : Bool) (x : Step) → Fail code place ≡ (Truncated when t at p) → Refused code place ≡ pick t (Refused Truncated p) x
+    go true x h = cc
+    go false x h = never code place h
 
 pub step_end : (s : List ℕ) (p : ℕ) → p ≡ length s → End ≡ step_at s p
 unfolding step_at pick
@@ -64,6 +70,19 @@ step_part s p h =
 -- what is left of a stream
 pub rest-is : (s : List ℕ) (p : ℕ) → take (length s - p) (drop p s) ≡ drop p s
 rest-is s p = take_all (length s - p) (drop p s) (omega (arith, length-drop p s))
+
+-- it tells the step, by its checks and the part that it makes
+pub part_fault : (s : List ℕ) (p code place : ℕ) → p ≤ length s → (p ≡ length s → ⊥) → Fail code place ≡ checks_at (take (length s - p) (drop p s)) p
+    → Refused code place ≡ step_at s p
+unfolding part_step step_on
+part_fault s p code place le ne f =
+    ap (λ (v : Verdict). step_on v (part_at (drop p s) p)) (rw (rest-is s p) at f) ∙ step_part s p (omega arith)
+
+pub part_found : (s : List ℕ) (p : ℕ) (x : Step) → p ≤ length s → (p ≡ length s → ⊥) → Pass ≡ checks_at (take (length s - p) (drop p s)) p
+    → x ≡ part_at (take (length s - p) (drop p s)) p → x ≡ step_at s p
+unfolding part_step step_on
+part_found s p x le ne f e =
+    (rw (rest-is s p) at e) ∙ ap (λ (v : Verdict). step_on v (part_at (drop p s) p)) (rw (rest-is s p) at f) ∙ step_part s p (omega arith)
 
 -- ---- what a part tells
 
@@ -105,15 +124,14 @@ step_says s p kind flags selector next e =
 
 -- ---- the value that a step hands back
 
-module _ (s : List ℕ) (p : ℕ) (x : Step) (e : x ≡ step_at s p) where
-  pub value-part : (kind flags selector next : ℕ) → x ≡ Part kind flags selector next → value_to s p next ≡ value_at s p
-  unfolding value_at step_value
-  value-part kind flags selector next is = rw (← e, is)
+pub value_part : (s : List ℕ) (p kind flags selector next : ℕ) → Part kind flags selector next ≡ step_at s p → value_to s p next ≡ value_at s p
+unfolding value_at step_value
+value_part s p kind flags selector next e = rw (← e)
 
-  pub value-end : x ≡ End → [] ≡ value_at s p
-  unfolding value_at step_value
-  value-end is = rw (← e, is)
+pub value_end : (s : List ℕ) (p : ℕ) → End ≡ step_at s p → [] ≡ value_at s p
+unfolding value_at step_value
+value_end s p e = rw (← e)
 
-  pub value-refused : (code place : ℕ) → x ≡ Refused code place → [] ≡ value_at s p
-  unfolding value_at step_value
-  value-refused code place is = rw (← e, is)
+pub value_refused : (s : List ℕ) (p code place : ℕ) → Refused code place ≡ step_at s p → [] ≡ value_at s p
+unfolding value_at step_value
+value_refused s p code place e = rw (← e)

@@ -4,19 +4,15 @@ use Rattle.std.specs.Prelude.{ℕ, zero, suc, ◌^◌, Bool, List, ◌∷◌, le
 use Rattle.std.proofs.Math.Option.{Option, none, some}
 use Rattle.answer.specs.Tests.{pick, is_some}
 use Rattle.answer.specs.Codes.{Index, Running, Truncated, Header, UnknownPart, Missing}
-use Rattle.answer.specs.Checks.{◌then◌, ◌when◌, ◌unless◌, ◌at◌}
+use Rattle.answer.specs.Checks.{Verdict, ◌then◌, ◌when◌, ◌unless◌, ◌at◌}
 use Rattle.answer.specs.Limits.{length_check}
 use Rattle.answer.specs.Answer.{Answer, done, refused, settle, ◌onward◌}
-use Rattle.answer.specs.declared.Verdict.{Verdict}
-use Rattle.answer.specs.declared.Verdict.TheVariants.{Pass, Fail}
 use Rattle.registers.specs.Rows.{OfferedFeatures, row_count, status_row, row_of, selects, listed, selector_width}
 use Rattle.registers.specs.Values.{value_checks}
-use Rattle.registers.specs.File.{File, blank, file_from, slots_of}
+use Rattle.registers.specs.File.{File, file_from, slots_of}
 use Rattle.registers.specs.declared.Register.{Register}
-use Rattle.parts.specs.Step.{step_at, value_to}
-use Rattle.parts.specs.declared.Loaded.{Loaded}
-use Rattle.parts.specs.declared.Step.{Step}
-use Rattle.parts.specs.declared.Step.TheVariants.{Part, End, Refused}
+use Rattle.registers.specs.declared.Registers.{Registers}
+use Rattle.parts.specs.Step.{Step, Part, End, Refused, step_at, value_to}
 
 -- What the parts so far have named: for each row of the table, that of offered features too, the value or none.
 abbrev pub Seen : Type 0
@@ -81,10 +77,10 @@ load w running s =
 abbrev pub seen_in : ℕ → Option (List ℕ) → List Register → Seen
 seen_in w x slots = x ∷ file_from w 1 slots
 
--- what the code gives for an answer: its verdict, and the registers of the file; where it is refused none is set
-unfoldable pub loaded_of : Answer File → Loaded
-loaded_of (done file) = record { verdict = Pass; registers = record { slots = slots_of file } }
-loaded_of (refused code place) = record { verdict = Fail code place; registers = record { slots = slots_of blank } }
+-- the registers that the code gives for the file of an answer
+unfoldable pub loaded_of : Answer File → Answer Registers
+loaded_of (done file) = done (record { slots = slots_of file })
+loaded_of (refused code place) = refused code place
 
 -- what the parts of a stream come to, from its start
 abbrev pub from_start : ℕ → List ℕ → Answer File

@@ -2,8 +2,7 @@
 use Rattle.std.specs.Prelude.{ℕ, zero, suc, Bool, List, [], ◌++◌, length, ltb}
 use Rattle.std.proofs.Math.Option.{Option, none, some}
 use Rattle.answer.specs.Codes.{Running, NoSpace}
-use Rattle.answer.specs.Checks.{◌then◌, ◌when◌}
-use Rattle.answer.specs.declared.Verdict.{Verdict}
+use Rattle.answer.specs.Checks.{Verdict, ◌then◌, ◌when◌}
 use Rattle.wire.specs.Field.{bytes_of}
 use Rattle.registers.specs.Rows.{row_count, kind_of, selector_of, size_of}
 use Rattle.registers.specs.File.{File, current}

@@ -1,32 +1,28 @@
 // Device parts: the stream that carries the registers.
-#![tactic(auto)]
+#![tactic(auto, using(answer::proofs::Checks::decides, answer::proofs::Checks::goes_on))]
 
-ghost use Rattle.std.specs.Prelude.{◌≡◌, true, List, ℕ, ◌+◌, ◌*◌, ◌^◌, ◌≤◌, ◌<◌, length, take};
-ghost use Rattle.std.proofs.Math.Option.{Option};
+ghost use Rattle.std.specs.Prelude.{◌≡◌, true, ◌+◌, ◌*◌, ◌^◌, ◌≤◌, ◌<◌, length, take, IfOk, MatchResult};
 ghost use Rattle.std.proofs.lemmas.List.Edits.{sets};
-ghost use Rattle.answer.specs.Answer.{refused as refusal};
-ghost use Rattle.answer.specs.Tests.{is_some};
+ghost use Rattle.answer.specs.Answer.{told, verdict_of};
 ghost use Rattle.registers.specs.Cards.{is_card, word_room};
-ghost use Rattle.registers.specs.Rows.{row_count, status_row, row_of, size_of, selector_width};
-ghost use Rattle.registers.specs.File.{current, file_of, file_from, slots_of};
-ghost use Rattle.parts.specs.Step.{header_size, part_step, step_at, value_to, value_at};
-ghost use Rattle.parts.specs.Load.{flags_of, listed_checks, part_checks, finish as finished, load as loading, seen_in, loaded_of, from_start};
+ghost use Rattle.registers.specs.Rows.{row_count, size_of, selector_width};
+ghost use Rattle.registers.specs.Kinds.{number_of, Names};
+ghost use Rattle.registers.specs.File.{file_of};
+ghost use Rattle.parts.specs.Step.{header_size, checks_at, part_at, shown, step_at, step_of, value_to, value_at};
+ghost use Rattle.parts.specs.Load.{flags_of, listed_checks, part_checks, load as loading, loaded_of, from_start};
 ghost use Rattle.parts.specs.Save.{encoded, saved, save_checks};
 
-use answer::Verdict;
-use registers::{Register, Registers};
+use answer::{Reason, Refusal};
+use registers::{Kind, Register, Registers};
+use wire::Number;
 
-// What stands at a place of a stream: a part, whose value reaches from 16 bytes behind that place to `next`; the end; or a refusal.
-#[derive(Clone, Copy)]
-pub enum Step {
-    Part {
-        kind: u16,
-        flags: u8,
-        selector: u64,
-        next: usize,
-    },
-    End,
-    Refused(u32, u64),
+// A part at a place of a stream; its value reaches from 16 bytes behind that place to `next`.
+#[derive(Clone, Copy, PartialEq, Eq)]
+pub struct Part {
+    pub kind: u16,
+    pub flags: u8,
+    pub selector: u64,
+    pub next: usize,
 }
 
 // ---- one step
@@ -35,43 +31,39 @@ pub enum Step {
 pub const HEADER_SIZE: usize = 16;
 
 // The part at place `at`, where `h` is what is left of the stream there.
-fn part_at(h: &[u8], at: usize) -> Step
+#[tactic(auto, using(crate::proofs::Steps::decides_at, crate::proofs::Steps::goes_on_at, crate::proofs::Steps::tested_at, crate::proofs::Steps::room_at), unfolding(crate::specs::Step::header_checks, crate::specs::Step::value_size, crate::specs::Step::part_at))]
+fn part_at(h: &[u8], at: usize) -> Result<Part, Refusal>
     requires { at + length h.now < 2 ^ 64 }
-    ensures { result ≡ part_step h.now at }
+    ensures checks { verdict_of result ≡ checks_at h.now at }
+    ensures part { IfOk result (λ part. shown part ≡ part_at h.now at) }
 {
-    if h.len() < HEADER_SIZE {
-        return Step::Refused(answer::TRUNCATED, at as u64);
-    }
-    let flags = wire::get_u8(h, 2);
-    if 1 < flags {
-        return Step::Refused(answer::HEADER, at as u64);
-    }
-    if wire::get_u8(h, 3) != 0 {
-        return Step::Refused(answer::HEADER, at as u64);
-    }
-    let size = wire::get_u32(h, 12) as usize;
-    if h.len() - HEADER_SIZE < size {
-        return Step::Refused(answer::TRUNCATED, at as u64);
-    }
-    Step::Part {
-        kind: wire::get_u16(h, 0),
+    let place = at as u64;
+    Reason::Truncated.at(place).when(h.len() < HEADER_SIZE)?;
+    let flags = u8::get(h, 2);
+    Reason::Header.at(place).when(1 < flags)?;
+    Reason::Header.at(place).when(u8::get(h, 3) != 0)?;
+    let size = u32::get(h, 12) as usize;
+    Reason::Truncated
+        .at(place)
+        .when(h.len() - HEADER_SIZE < size)?;
+    Ok(Part {
+        kind: u16::get(h, 0),
         flags,
-        selector: wire::get_u64(h, 4),
+        selector: u64::get(h, 4),
         next: at + HEADER_SIZE + size,
-    }
+    })
 }
 
-// One step over a stream of any length.
-pub fn step_at(s: &[u8], at: usize) -> Step
-    ensures { result ≡ step_at s.now at }
+// One step over a stream of any length: the part that stands there, or nothing at the end.
+#[tactic(auto, using(crate::proofs::Steps::room_at, crate::proofs::Steps::step_past, crate::proofs::Steps::step_end, crate::proofs::Steps::part_fault, crate::proofs::Steps::part_found))]
+pub fn step_at(s: &[u8], at: usize) -> Result<Option<Part>, Refusal>
+    ensures { step_of result ≡ step_at s.now at }
 {
-    if s.len() < at {
-        return Step::Refused(answer::TRUNCATED, at as u64);
-    }
+    Reason::Truncated.at(at as u64).when(s.len() < at)?;
     if at == s.len() {
-        return Step::End;
+        return Ok(None);
     }
-    part_at(&s[at..], at)
+    Ok(Some(part_at(&s[at..], at)?))
 }
 
 // The value of the part at `at` whose next place is `next`, as that stretch of the lent stream.
@@ -80,210 +72,133 @@ pub fn value_to(s: &[u8], at: usize, next: usize) -> &[u8]
     requires { (at + header_size ≤ next) × (next ≤ length s.now) }
     ensures { result.now ≡ value_to s.now at next }
 {
-    let start = at + HEADER_SIZE;
-    &s[start..next]
+    &s[at + HEADER_SIZE..next]
 }
 
 // The value of the part at `at`; nothing where a step hands back no part.
+#[tactic(auto, using(crate::proofs::Steps::step_says, crate::proofs::Steps::value_part, crate::proofs::Steps::value_end, crate::proofs::Steps::value_refused))]
 pub fn value_at(s: &[u8], at: usize) -> &[u8]
     ensures { result.now ≡ value_at s.now at }
 {
-    let step = step_at(s, at);
-    match step {
-        Step::Part {
-            kind: _,
-            flags: _,
-            selector: _,
-            next,
-        } => value_to(s, at, next),
-        Step::End => &s[..0],
-        Step::Refused(_, _) => &s[..0],
+    match step_at(s, at) {
+        Ok(Some(part)) => value_to(s, at, part.next),
+        Ok(None) => &s[..0],
+        Err(_) => &s[..0],
     }
 }
 
 // ---- loading
 
-// What loading comes to, and the registers that were loaded; none of them is set where it is refused.
-#[derive(Clone, Copy)]
-pub struct Loaded {
-    pub verdict: Verdict,
-    pub registers: Registers,
-}
-
 // Types from here on are refused, and never skipped.
-const RESERVED_KINDS: u64 = 0x600;
+const RESERVED_KINDS: u16 = 0x600;
 
-// Offered features are flagged optional, and no other listed type.
+// Offered features are flagged optional, and no other listed type; `kind` is a type's number, which may be any.
 #[tactic(auto, unfolding(crate::specs::Load::flags_of, answer::specs::Tests::pick))]
 pub fn flags_of(kind: u64) -> u8
     ensures { result ≡ flags_of kind }
 {
-    if kind == registers::OFFERED_FEATURES {
-        1
-    } else {
-        0
-    }
+    (kind == Kind::OfferedFeatures.number()) as u8
+}
+
+// Those of a type.
+pub fn flags(kind: Kind) -> u8
+    ensures { result ≡ flags_of (number_of kind) }
+{
+    flags_of(kind.number())
 }
 
 // The first number that the selector bytes of a type cannot hold.
-fn selector_limit(kind: u64) -> u64
-    ensures { result ≡ 256 ^ selector_width kind }
+#[tactic(auto, unfolding(registers::specs::Rows::selector_width, answer::specs::Tests::pick))]
+fn selector_limit(kind: Kind) -> u64
+    ensures { result ≡ 256 ^ selector_width (number_of kind) }
 {
-    let width = registers::selector_width(kind);
-    if width == 4 {
-        return 0x100000000;
+    match kind {
+        Kind::CommonField => 0x100000000,
+        Kind::QueueConfig | Kind::NotifyConfig => 0x10000,
+        _ => 1,
     }
-    if width == 2 { 0x10000 } else { 1 }
 }
 
-// A part of a listed type. It names a row of the table, which a part named before where `twice` is true.
+// A part of a listed type, with its value. It names a row of the table, which a part named before where `twice` is true, as in the
+// definition.
+#[tactic(auto, using(answer::proofs::Checks::decides, answer::proofs::Checks::goes_on), unfolding(crate::specs::Load::listed_checks))]
 fn check_listed(
     words: u8,
-    row: usize,
+    kind: Kind,
+    row: Option<usize>,
     twice: bool,
-    kind: u64,
-    flags: u8,
-    selector: u64,
+    part: Part,
     v: &[u8],
-) -> Verdict
-    requires { (is_card words ≡ true) × (row ≡ row_of kind selector) }
-    ensures { result ≡ listed_checks words twice kind flags selector v.now }
+) -> Result<(), Refusal>
+    requires { (is_card words ≡ true) × (number_of kind ≡ part.kind) × Names row part.kind part.selector }
+    ensures { verdict_of result ≡ listed_checks words twice part.kind part.flags part.selector v.now }
 {
-    if flags != flags_of(kind) {
-        return Verdict::Fail(answer::HEADER, 0);
-    }
-    if selector_limit(kind) <= selector {
-        return Verdict::Fail(answer::HEADER, 0);
-    }
-    if registers::ROWS <= row {
-        return Verdict::Fail(answer::INDEX, 0);
-    }
-    if v.len() != registers::size_of(words, row) {
-        return Verdict::Fail(answer::VALUE, 0);
-    }
-    if twice {
-        return Verdict::Fail(answer::TWICE, 0);
-    }
+    Reason::Header.unless(part.flags == flags(kind))?;
+    Reason::Header.unless(part.selector < selector_limit(kind))?;
+    let row = row.ok_or(Reason::Index.at(0))?;
+    Reason::Value.unless(v.len() == registers::size_of(words, row))?;
+    Reason::Twice.when(twice)?;
     registers::check_content(words, row, v)
 }
 
+#[tactic(auto, using(answer::proofs::Checks::decides, answer::proofs::Checks::goes_on, crate::proofs::Loading::listed_picks, crate::proofs::Loading::unlisted_picks), unfolding(crate::specs::Load::part_checks))]
 fn check_part(
     words: u8,
-    row: usize,
+    row: Option<usize>,
     twice: bool,
-    kind: u64,
-    flags: u8,
-    selector: u64,
+    part: Part,
     v: &[u8],
-) -> Verdict
-    requires { (is_card words ≡ true) × (row ≡ row_of kind selector) }
-    ensures { result ≡ part_checks words twice kind flags selector v.now }
+) -> Result<(), Refusal>
+    requires { (is_card words ≡ true) × Names row part.kind part.selector }
+    ensures { verdict_of result ≡ part_checks words twice part.kind part.flags part.selector v.now }
 {
-    if RESERVED_KINDS <= kind {
-        return Verdict::Fail(answer::UNKNOWN_PART, 0);
+    Reason::UnknownPart.when(RESERVED_KINDS <= part.kind)?;
+    match Kind::try_from(part.kind as u64) {
+        Ok(kind) => check_listed(words, kind, row, twice, part, v),
+        Err(_) => Reason::UnknownPart.unless(part.flags == 1),
     }
-    if registers::is_listed(kind) {
-        return check_listed(words, row, twice, kind, flags, selector, v);
-    }
-    if flags == 1 {
-        Verdict::Pass
-    } else {
-        Verdict::Fail(answer::UNKNOWN_PART, 0)
-    }
-}
-
-// A refused stream, of which no register is taken.
-#[tactic(auto, unfolding(crate::specs::Load::loaded_of))]
-fn refused(code: u32, place: u64) -> Loaded
-    ensures { result ≡ loaded_of (refusal code place) }
-{
-    let registers = registers::blank();
-    Loaded {
-        verdict: Verdict::Fail(code, place),
-        registers,
-    }
-}
-
-// The end of the stream, at place `at`, where `named` is whether a part named status. Registers that no part named are not set.
-fn finish(words: u8, slots: [Register; registers::SLOTS], named: bool, at: usize) -> Loaded
-    requires { (slots ≡ slots_of (file_from words 1 slots)) × (named ≡ is_some (current words (file_from words 1 slots) status_row)) }
-    ensures { (x : Option (List ℕ)) → result ≡ loaded_of (finished (seen_in words x slots) at) }
-{
-    if named {
-        return Loaded {
-            verdict: Verdict::Pass,
-            registers: Registers { slots },
-        };
-    }
-    refused(answer::MISSING, at as u64)
 }
 
 // Each part in order: `slots` has the registers that parts named, and `offered` is whether one named offered features, which are not kept.
 // The slots are read and set in place, since a call would copy them all.
-fn load_parts(words: u8, s: &[u8]) -> Loaded
+fn load_parts(words: u8, s: &[u8]) -> Result<Registers, Refusal>
     requires { is_card words ≡ true }
-    ensures { result ≡ loaded_of (from_start words s.now) }
+    ensures { told result ≡ loaded_of (from_start words s.now) }
 {
-    let none = registers::unset();
-    let mut slots = [none; registers::SLOTS];
+    let mut slots = [registers::unset(); registers::SLOTS];
     let mut offered = false;
-    let mut at: usize = 0;
-    loop {
-        let step = step_at(s, at);
-        match step {
-            Step::End => {
-                let status = slots[registers::STATUS_ROW - 1];
-                return finish(words, slots, status.set == registers::SET, at);
-            }
-            Step::Refused(code, place) => {
-                return refused(code, place);
-            }
-            Step::Part {
-                kind,
-                flags,
-                selector,
-                next,
-            } => {
-                let v = value_to(s, at, next);
-                let row = registers::row_of(kind as u64, selector);
-                let mut twice = false;
-                if row == 0 {
-                    twice = offered;
-                } else if row < registers::ROWS {
-                    let r = slots[row - 1];
-                    twice = r.set == registers::SET;
-                }
-                let verdict = check_part(words, row, twice, kind as u64, flags, selector, v);
-                match verdict {
-                    Verdict::Fail(code, _) => {
-                        return refused(code, at as u64);
-                    }
-                    Verdict::Pass => {
-                        if row == 0 {
-                            offered = true;
-                        } else if row < registers::ROWS {
-                            let r = registers::holding(v);
-                            slots[row - 1] = r;
-                        }
-                        at = next;
-                    }
-                }
-            }
+    let mut at = 0;
+    while let Some(part) = step_at(s, at)? {
+        let v = value_to(s, at, part.next);
+        let row = registers::row_of(part.kind as u64, part.selector);
+        let twice = match row {
+            Some(0) => offered,
+            Some(row) => slots[row - 1].set == registers::SET,
+            None => false,
+        };
+        if let Err(e) = check_part(words, row, twice, part, v) {
+            return Err(e.reason.at(at as u64));
         }
+        match row {
+            Some(0) => offered = true,
+            Some(row) => slots[row - 1] = registers::holding(v),
+            None => {}
+        }
+        at = part.next;
     }
+    let named = slots[registers::STATUS_ROW - 1].set == registers::SET;
+    Reason::Missing.at(at as u64).when(!named)?;
+    Ok(Registers { slots })
 }
 
-// Loads a stream on a card with so many words of features.
-pub fn load(words: u8, running: bool, s: &[u8]) -> Loaded
+// Loads a stream on a card with so many words of features; registers that no part named are not set.
+#[tactic(auto, using(crate::proofs::Loading::load_refused, crate::proofs::Loading::load_passes, answer::proofs::Checks::decides, answer::proofs::Checks::goes_on), unfolding(answer::specs::Limits::length_check))]
+pub fn load(words: u8, running: bool, s: &[u8]) -> Result<Registers, Refusal>
     requires { is_card words ≡ true }
-    ensures { result ≡ loaded_of (loading words running s.now) }
+    ensures { told result ≡ loaded_of (loading words running s.now) }
 {
-    if running {
-        return refused(answer::RUNNING, 0);
-    }
-    if answer::TRANSFER_LIMIT < s.len() {
-        return refused(answer::TOO_LONG, 0);
-    }
+    Reason::Running.when(running)?;
+    Reason::TooLong.when(answer::TRANSFER_LIMIT < s.len())?;
     load_parts(words, s)
 }
 
@@ -308,16 +223,15 @@ fn put_part(words: u8, buf: &mut [u8], at: usize, row: usize, r: Register)
 {
     let kind = registers::kind_of(row);
     let size = registers::size_of(words, row);
-    wire::put_u16(buf, at, kind as u16);
-    wire::put_u8(buf, at + 2, flags_of(kind));
-    wire::put_u8(buf, at + 3, 0);
-    wire::put_u64(buf, at + 4, registers::selector_of(row));
-    wire::put_u32(buf, at + 12, size as u32);
-    let bytes = r.bytes;
+    (kind.number() as u16).put(buf, at);
+    flags(kind).put(buf, at + 2);
+    0u8.put(buf, at + 3);
+    registers::selector_of(row).put(buf, at + 4);
+    (size as u32).put(buf, at + 12);
     if row < 2 {
-        put_words(words, buf, at + HEADER_SIZE, &bytes);
+        put_words(words, buf, at + HEADER_SIZE, &r.bytes);
     } else {
-        wire::copy(buf, at + HEADER_SIZE, &bytes, 0, size);
+        wire::copy(buf, at + HEADER_SIZE, &r.bytes, 0, size);
     }
 }
 
@@ -327,31 +241,28 @@ fn saved_length(words: u8, registers: Registers) -> usize
     requires { words ≤ word_room }
     ensures { result ≡ length (saved words (file_of words registers)) }
 {
-    let slots = registers.slots;
-    let mut n: usize = HEADER_SIZE + registers::size_of(words, 0);
-    let mut i: usize = 0;
-    while i < registers::SLOTS {
-        let r = slots[i];
+    let mut n = HEADER_SIZE + registers::size_of(words, 0);
+    for (i, r) in registers.slots.iter().enumerate() {
         if r.set == registers::SET {
-            n = n + HEADER_SIZE + registers::size_of(words, i + 1);
+            n += HEADER_SIZE + registers::size_of(words, i + 1);
         }
-        i += 1;
     }
     n
 }
 
 // Saving into a buffer of `room` bytes.
-pub fn check_save(words: u8, registers: Registers, running: bool, room: usize) -> Verdict
+#[tactic(auto, using(answer::proofs::Checks::decides, answer::proofs::Checks::goes_on), unfolding(crate::specs::Save::save_checks))]
+pub fn check_save(
+    words: u8,
+    registers: Registers,
+    running: bool,
+    room: usize,
+) -> Result<(), Refusal>
     requires { words ≤ word_room }
-    ensures { result ≡ save_checks words running (file_of words registers) room }
+    ensures { verdict_of result ≡ save_checks words running (file_of words registers) room }
 {
-    if running {
-        return Verdict::Fail(answer::RUNNING, 0);
-    }
-    if room < saved_length(words, registers) {
-        return Verdict::Fail(answer::NO_SPACE, 0);
-    }
-    Verdict::Pass
+    Reason::Running.when(running)?;
+    Reason::NoSpace.when(room < saved_length(words, registers))
 }
 
 // Writes the parts of the registers that are set, and of offered features, to the start of a buffer that has the room, and reports
@@ -360,18 +271,28 @@ pub fn save(words: u8, registers: Registers, buf: &mut [u8]) -> usize
     requires { (is_card words ≡ true) × (length (saved words (file_of words registers)) ≤ length buf.old) }
     ensures { (buf.new ≡ sets buf.old 0 (saved words (file_of words registers))) × (result ≡ length (saved words (file_of words registers))) }
 {
-    let slots = registers.slots;
-    let features = registers::offered();
-    put_part(words, buf, 0, 0, features);
-    let mut at: usize = HEADER_SIZE + registers::size_of(words, 0);
-    let mut i: usize = 0;
-    while i < registers::SLOTS {
-        let r = slots[i];
+    put_part(words, buf, 0, 0, registers::offered());
+    let mut at = HEADER_SIZE + registers::size_of(words, 0);
+    for (i, r) in registers.slots.iter().enumerate() {
         if r.set == registers::SET {
-            put_part(words, buf, at, i + 1, r);
-            at = at + HEADER_SIZE + registers::size_of(words, i + 1);
+            put_part(words, buf, at, i + 1, *r);
+            at += HEADER_SIZE + registers::size_of(words, i + 1);
         }
-        i += 1;
     }
     at
+}
+
+// The same, where the checks pass.
+pub fn try_save(
+    words: u8,
+    registers: Registers,
+    running: bool,
+    buf: &mut [u8],
+) -> Result<usize, Refusal>
+    requires { is_card words ≡ true }
+    ensures checks { verdict_of result ≡ save_checks words running (file_of words registers) (length buf.old) }
+    ensures parts { MatchResult result (λ n. (buf.new ≡ sets buf.old 0 (saved words (file_of words registers))) × (n ≡ length (saved words (file_of words registers)))) (λ _. buf.new ≡ buf.old) }
+{
+    check_save(words, registers, running, buf.len())?;
+    Ok(save(words, registers, buf))
 }

@@ -2,9 +2,7 @@
 -- What stands there is a step of the crate parts; here is where it goes on.
 use Rattle.std.specs.Prelude.{ℕ, List}
 use Rattle.std.specs.Borrow.{Bor}
-use Rattle.parts.specs.Step.{step_at}
-use Rattle.parts.specs.declared.Step.{Step}
-use Rattle.parts.specs.declared.Step.TheVariants.{Part, End, Refused}
+use Rattle.parts.specs.Step.{Step, Part, End, Refused, step_at}
 use Rattle.reader.specs.declared.PartReader.{PartReader}
 
 -- rule 6.5: where a step leaves the reader that stood at `p`: behind a part; after a refusal or at the end it stays

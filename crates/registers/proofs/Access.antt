@@ -5,22 +5,20 @@ use native.Mathlib.Omega.{arith}
 use mathlib.Core.Path.{◌≡◌, sym, ◌∙◌, ap}
 use mathlib.Core.Bool.{true, false}
 use mathlib.Core.List.{List}
-use mathlib.Core.Option.{Option, some}
+use mathlib.Core.Option.{some}
 use lib.ListN.{length, set, take}
-use lib.Dec.{ltb}
 use borrow.Author.Tests.{eqb-false, ltb-false}
-use Rattle.answer.specs.Tests.{is_some}
-use Rattle.answer.specs.Codes.{Unset, NoSpace}
-use Rattle.answer.specs.Checks.{◌then◌, ◌when◌, ◌unless◌}
-use Rattle.answer.specs.declared.Verdict.TheVariants.{Pass}
+use Rattle.answer.specs.Tests.{flagged, is_some}
+use Rattle.answer.specs.Checks.{Verdict, Pass, ◌unless◌}
 use Rattle.answer.proofs.Checks.{then_pass, unless_pass, when_pass}
-use Rattle.registers.specs.Cards.{word_room}
-use Rattle.registers.specs.Rows.{row_count, size_of, row_of, listed}
+use Rattle.registers.specs.Cards.{is_card}
+use Rattle.registers.specs.Rows.{row_count, size_of, row_of}
 use Rattle.registers.specs.Values.{value_checks}
 use Rattle.registers.specs.File.{File, current, with_value, register_value, file_from, file_of, register_of}
 use Rattle.registers.specs.Access.{selector_checks, set_checks, set_to, read_checks, or_empty, read_value}
 use Rattle.registers.specs.declared.Register.{Register}
 use Rattle.registers.specs.declared.Registers.{Registers}
+use Rattle.registers.proofs.Cards.{card-small}
 use Rattle.registers.proofs.Rows.{size-most, selected, row-kind, kept_row}
 use Rattle.registers.proofs.Values.{value-size}
 use Rattle.registers.proofs.File.{set_is, value_set, file-set}
@@ -49,11 +47,11 @@ settable w kind selector v h =
     }
 
 -- a value that may be set fits into a register that is kept
-pub set-fits : (w kind selector : ℕ) (v : List ℕ) → w ≤ word_room → set_checks w kind selector v ≡ Pass
+pub set_fits : (w kind selector : ℕ) (v : List ℕ) → is_card w ≡ true → Pass ≡ set_checks w kind selector v
     → (0 < row_of kind selector) × (row_of kind selector < row_count) × (length v ≤ 32)
-set-fits w kind selector v small h =
-    let can = settable w kind selector v h in
-    (can.kept, can.bound, omega (arith, can.size, size-most w _ small can.bound))
+set_fits w kind selector v card h =
+    let can = settable w kind selector v (sym h) in
+    (can.kept, can.bound, omega (arith, can.size, size-most w _ (card-small w card) can.bound))
 
 pub kept-value : (file : File) (i : ℕ) (v : List ℕ) → 0 < i → with_value file i v ≡ set file (i - 1) (some v)
 unfolding with_value
@@ -88,18 +86,13 @@ readable w file kind selector room h =
     let b = then_pass _ _ a.1 in
     record { bound = row_listed kind selector a.0; held = unless_pass _ _ b.0; fits = ltb-false _ _ (when_pass _ _ b.1) }
 
--- the checks that are left for a register that is listed
-pub read-listed : (w : ℕ) (file : File) (kind selector room : ℕ) → listed kind ≡ true → selector_checks kind selector ≡ Pass
-    → read_checks w file kind selector room
-    ≡ (Unset unless is_some (current w file (row_of kind selector)) then NoSpace when ltb room (size_of w (row_of kind selector)))
-unfolding read_checks ◌then◌ ◌unless◌
-read-listed w file kind selector room l s = rw (l, s)
+-- the code's test whether the register that a row shows is set
+pub shown_set : (w : ℕ) (file : File) (row i : ℕ) (r : Register) (code : ℕ) (v : Verdict) → register_value w row r ≡ current w file row → row ≡ i
+    → v ≡ (code unless flagged r.set) → v ≡ (code unless is_some (current w file i))
+shown_set w file row i r code v h e t = t ∙ rw (← e, ← h, set_is)
 
--- a register that a row shows, where the row has a value
-pub shown-value : (w i : ℕ) (r : Register) (x : Option (List ℕ)) → register_value w i r ≡ x → is_some x ≡ true → x ≡ some (take (size_of w i) r.bytes)
-shown-value w i r x e h = sym e ∙ value_set w i r (sym (set_is w i r) ∙ ap is_some e ∙ h)
-
-pub value_read : (w : ℕ) (file : File) (kind selector : ℕ) (r : Register) → register_value w (row_of kind selector) r ≡ current w file (row_of kind selector)
-    → is_some (current w file (row_of kind selector)) ≡ true → read_value w file kind selector ≡ take (size_of w (row_of kind selector)) r.bytes
+-- what reading gives of a register that is set
+pub value_read : (w : ℕ) (file : File) (kind selector row : ℕ) (r : Register) → row ≡ row_of kind selector → register_value w row r ≡ current w file row
+    → flagged r.set ≡ true → read_value w file kind selector ≡ take (size_of w row) r.bytes
 unfolding read_value or_empty
-value_read w file kind selector r e h = ap or_empty (shown-value w _ r _ e h)
+value_read w file kind selector row r e h s = rw (← e, ← h, value_set w row r s)

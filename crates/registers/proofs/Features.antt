@@ -1,7 +1,6 @@
 -- Laws of the words of features, over their number.
 use Prim.Native.Nat.{ℕ, zero, suc, ◌+◌, ◌*◌, ◌^◌, ◌≤◌, ◌<◌}
 use native.Mathlib.Nat.{not-suc-le-zero, add-zero}
-use native.Mathlib.Numerals.{add-one}
 use native.Mathlib.Omega.{arith}
 use mathlib.Core.Path.{◌≡◌, refl, sym, ◌∙◌, ap}
 use mathlib.Core.Bool.{Bool, true, false, true≢false}
@@ -83,11 +82,6 @@ each_at test w v h i lt =
 
 pub each-not : (test : ℕ → ℕ → Bool) (w i : ℕ) (v : List ℕ) → i < w → test (field v (8 * i) 8) (offered_word i) ≡ false → false ≡ each_word test w v
 each-not test w i v lt e = sym (is_false _ (λ h. true≢false (sym (each_at test w v h i lt) ∙ e)))
-
--- one word more
-pub each_more : (test : ℕ → ℕ → Bool) (w : ℕ) (v : List ℕ) → each_word test w v ≡ true → test (field v (8 * w) 8) (offered_word w) ≡ true → each_word test (w + 1) v ≡ true
-unfolding each_word
-each_more test w v h g = rw add-one (and_made _ _ h g)
 
 -- what is offered has the words that are offered
 pub offered-exact : (w : ℕ) → each_word eqb w (offered w) ≡ true

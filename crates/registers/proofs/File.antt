@@ -18,9 +18,7 @@ use denote.Laws.{Is}
 use denote.Struct.Declared.{row}
 use borrow.Author.Tests.{eq-eqb, eqb-true}
 use Rattle.answer.specs.Tests.{◌and◌, pick, flagged, is_some}
-use Rattle.answer.specs.Checks.{◌then◌, ◌when◌, ◌unless◌, passes}
-use Rattle.answer.specs.declared.Verdict.{Verdict}
-use Rattle.answer.specs.declared.Verdict.TheVariants.{Pass, Fail}
+use Rattle.answer.specs.Checks.{Verdict, Pass, Fail, ◌then◌, ◌when◌, ◌unless◌, passes}
 use Rattle.answer.proofs.Tests.{and_true, and_made, both_and}
 use Rattle.wire.specs.Field.{bytes_of}
 use Rattle.registers.specs.Rows.{row_count, status_row, kind_of, size_of}

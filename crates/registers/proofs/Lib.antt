@@ -1,5 +1,6 @@
 pub mod Cards
 pub mod Rows
+pub mod Listed
 pub mod PowersOfTwo
 pub mod Features
 pub mod Values

@@ -2,7 +2,7 @@
 use Prim.Native.Nat.{ℕ, zero, suc, ◌+◌, ◌*◌, ◌^◌, ◌≤◌, ◌<◌}
 use native.Mathlib.Omega.{arith}
 use mathlib.Core.Path.{◌≡◌, refl, sym, ◌∙◌, ap}
-use mathlib.Core.Bool.{Bool, true, false, not, false≢true}
+use mathlib.Core.Bool.{Bool, true, false, not}
 use mathlib.Core.List.{map}
 use mathlib.Core.Logic.{◌⊎◌, inl, inr, ⊎_elim}
 use lib.ListN.{get_or, get_or-map}
@@ -56,26 +56,6 @@ kind-listed i h =
 pub selector-fits : (i : ℕ) → i < row_count → selector_of i < 256 ^ 8
 unfolding selector_of below ◌and◌
 selector-fits i h = ltb-true _ _ (below_at (λ i. ltb (selector_of i) (256 ^ 8)) row_count refl i h)
-
-unfoldable pub same : Width → Width → Bool
-same (fixed n) (fixed m) = eqb n m
-same (fixed n) features = false
-same features (fixed m) = false
-same features features = true
-
-same_size : (w : ℕ) (x y : Width) → same x y ≡ true → size_in w x ≡ size_in w y
-unfolding same size_in
-same_size w (fixed n) (fixed m) h = eqb-true n m h
-same_size w (fixed n) features h = absurd (false≢true h)
-same_size w features (fixed m) h = absurd (false≢true h)
-same_size w features features h = refl
-
--- A type whose rows all have one size, which is computed.
-pub kind-size : (kind : ℕ) (x : Width) → below (λ i. not (eqb (kind_of i) kind) or same (width_of i) x) row_count ≡ true
-    → (w i : ℕ) → i < row_count → kind ≡ kind_of i → size_of w i ≡ size_in w x
-unfolding size_of ◌or◌
-kind-size kind x all w i h e =
-    same_size w (width_of i) x (rw (eq-eqb _ _ (sym e)) at (below_at (λ i. not (eqb (kind_of i) kind) or same (width_of i) x) row_count all i h))
 
 -- only the first row is of offered features
 pub kept_row : (i : ℕ) → i < row_count → (kind_of i ≡ OfferedFeatures → ⊥) → 0 < i

@@ -8,8 +8,7 @@ use mathlib.Core.List.{List, [], ◌∷◌}
 use mathlib.Core.Option.{Option, none, some}
 use lib.ListN.{get_or, set}
 use Rattle.answer.specs.Tests.{◌and◌, pick, is_some}
-use Rattle.answer.specs.Checks.{◌then◌, ◌when◌, ◌unless◌, passes}
-use Rattle.answer.specs.declared.Verdict.TheVariants.{Pass}
+use Rattle.answer.specs.Checks.{Pass, ◌then◌, ◌when◌, ◌unless◌, passes}
 use Rattle.answer.proofs.Tests.{and_true, and_made}
 use Rattle.registers.specs.Rows.{kind_of, width_of, size_in, size_of, row_of}
 use Rattle.registers.specs.Values.{content_checks, value_checks}

@@ -6,12 +6,10 @@ use mathlib.Core.Bool.{Bool, true, false}
 use mathlib.Core.List.{List, []}
 use lib.ListN.{length}
 use lib.Dec.{eqb, leb, ltb}
-use borrow.Author.Tests.{eq-eqb, ne_eqb, leb-true, le-leb, eqb-true, ltb-true, ltb-false}
+use borrow.Author.Tests.{eq-eqb, leb-true, le-leb, eqb-true, ltb-true, ltb-false}
 use Rattle.answer.specs.Tests.{◌and◌, ◌or◌, pick}
-use Rattle.answer.specs.Codes.{Twice, Value, Mismatch}
-use Rattle.answer.specs.Checks.{◌then◌, ◌when◌, ◌unless◌, passes}
-use Rattle.answer.specs.declared.Verdict.{Verdict}
-use Rattle.answer.specs.declared.Verdict.TheVariants.{Pass, Fail}
+use Rattle.answer.specs.Codes.{Value, Mismatch}
+use Rattle.answer.specs.Checks.{Verdict, Pass, Fail, ◌then◌, ◌when◌, ◌unless◌, passes}
 use Rattle.answer.proofs.Tests.{and_true, and_made, same_test, below}
 use Rattle.answer.proofs.Checks.{then_pass, unless_pass}
 use Rattle.wire.specs.Field.{field}
@@ -130,16 +128,6 @@ module _ (w i : ℕ) (v : List ℕ) where
       go false false false p q r = coded Value (content_checks w (kind_of i) v) (valid_notify v) (content-notify (ltb-false _ _ r) h)
 
 -- ---- all checks of a value
-
--- a wrong size decides, whether it came before or not
-pub value-long : (w i : ℕ) (twice : Bool) (v : List ℕ) → (length v ≡ size_of w i → ⊥) → value_checks w i twice v ≡ Fail Value 0
-unfolding value_checks ◌then◌ ◌unless◌
-value-long w i twice v e = rw (ne_eqb _ _ e)
-
--- a value of the right size that came before is refused for that
-pub value_twice : (w i : ℕ) (v : List ℕ) → length v ≡ size_of w i → value_checks w i true v ≡ Fail Twice 0
-unfolding value_checks ◌then◌ ◌unless◌ ◌when◌
-value_twice w i v e = rw (eq-eqb _ _ e)
 
 -- what it holds decides, where its size is right and it came once
 pub value-content : (w i : ℕ) (v : List ℕ) → length v ≡ size_of w i → value_checks w i false v ≡ content_checks w (kind_of i) v

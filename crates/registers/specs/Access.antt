@@ -4,8 +4,7 @@ use Rattle.std.specs.Prelude.{ℕ, false, List, [], ltb, eqb}
 use Rattle.std.proofs.Math.Option.{Option, none, some}
 use Rattle.answer.specs.Tests.{◌and◌, is_some}
 use Rattle.answer.specs.Codes.{Index, Header, UnknownPart, Unset, ReadOnly, NoSpace}
-use Rattle.answer.specs.Checks.{◌then◌, ◌when◌, ◌unless◌}
-use Rattle.answer.specs.declared.Verdict.{Verdict}
+use Rattle.answer.specs.Checks.{Verdict, ◌then◌, ◌when◌, ◌unless◌}
 use Rattle.registers.specs.Rows.{OfferedFeatures, row_of, size_of, selects, listed, selector_width}
 use Rattle.registers.specs.Values.{value_checks}
 use Rattle.registers.specs.File.{File, current, with_value}

@@ -1,5 +1,6 @@
 pub mod Cards
 pub mod Rows
+pub mod Kinds
 pub mod PowersOfTwo
 pub mod Values
 pub mod File

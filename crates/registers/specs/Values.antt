@@ -3,9 +3,7 @@ use Rattle.std.specs.Prelude.{ℕ, zero, suc, ◌*◌, ◌%◌, ◌^◌, Bool, t
 use Rattle.std.specs.Int.Bits.{bit_and}
 use Rattle.answer.specs.Tests.{◌and◌, ◌or◌, pick}
 use Rattle.answer.specs.Codes.{Twice, Value, Mismatch}
-use Rattle.answer.specs.Checks.{◌then◌, ◌when◌, ◌unless◌}
-use Rattle.answer.specs.declared.Verdict.{Verdict}
-use Rattle.answer.specs.declared.Verdict.TheVariants.{Pass}
+use Rattle.answer.specs.Checks.{Verdict, Pass, ◌then◌, ◌when◌, ◌unless◌}
 use Rattle.wire.specs.Field.{field, bytes_of}
 use Rattle.registers.specs.Rows.{OfferedFeatures, DriverFeatures, QueueConfig, NotifyConfig, kind_of, size_of}
 

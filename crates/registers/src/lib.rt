@@ -1,24 +1,25 @@
 // The register file of the device.
-#![tactic(auto)]
+#![tactic(auto, using(answer::proofs::Checks::decides, answer::proofs::Checks::goes_on))]
 
-ghost use Rattle.std.specs.Prelude.{◌≡◌, true, ◌+◌, ◌-◌, ◌*◌, ◌<◌, ◌≤◌, length, set as with_element, ltb, eqb};
+ghost use Rattle.std.specs.Prelude.{◌≡◌, true, ◌+◌, ◌-◌, ◌*◌, ◌<◌, ◌≤◌, length, set as with_element, ltb, eqb, IfOk, IfSome, MatchResult, unwrap_or};
 ghost use Rattle.std.proofs.Math.Option.{none, some};
 ghost use Rattle.std.proofs.lemmas.List.Edits.{sets};
 ghost use Rattle.answer.specs.Tests.{pick};
-ghost use Rattle.answer.specs.Codes.{Value, Mismatch};
-ghost use Rattle.answer.specs.Checks.{◌unless◌, passes};
-ghost use Rattle.answer.specs.declared.Verdict.TheVariants.{Pass};
+ghost use Rattle.answer.specs.Checks.{Pass, passes};
+ghost use Rattle.answer.specs.Answer.{verdict_of};
 ghost use Rattle.wire.specs.Field.{field};
 ghost use Rattle.registers.specs.Cards.{words_of, is_card, word_room};
-ghost use Rattle.registers.specs.Rows.{CommonField, row_count, kind_of, selector_of, size_of, row_of, listed, selector_width};
+ghost use Rattle.registers.specs.Rows.{row_count, kind_of, selector_of, size_of, row_of, selector_width};
+ghost use Rattle.registers.specs.Kinds.{number_of, Decodes, Names};
 ghost use Rattle.registers.specs.Values.{offered_word, offered as offered_bytes, each_word, within, power_of_two, valid_size, valid_queue, content_checks};
 ghost use Rattle.registers.specs.File.{current as current_in, blank as blank_file, reset as reset_file, sound_value, sound_file, register_value, file_of, register_of, slots_of};
 ghost use Rattle.registers.specs.Access.{selector_checks, set_checks, read_checks, read_value};
 
-use answer::Verdict;
+use answer::{Reason, Refusal};
+use wire::Number;
 
 // One register: it is set where `set` is 1, and no other value of that byte says so; its value stands at the start of `bytes`. Bytes
-// past the value's size, and all bytes of a register that is not set, mean nothing.
+// past the value's size, and all bytes of a register that is not set, mean nothing. C has this struct, so it is no Option.
 #[repr(C)]
 #[derive(Clone, Copy)]
 pub struct Register {
@@ -46,7 +47,8 @@ pub enum Card {
     Features128,
 }
 
-// How many words of features a card has, which is how a kept state tells the cards apart.
+// How many words of features a card has, which is how a kept state tells the cards apart. C may have put any byte there, so the functions
+// below take that number, and not a card.
 #[tactic(auto, unfolding(crate::specs::Cards::words_of))]
 pub fn words_of(card: Card) -> u8
     ensures { result ≡ words_of card }
@@ -60,25 +62,90 @@ pub fn words_of(card: Card) -> u8
 pub fn is_card(words: u8) -> bool
     ensures { result ≡ is_card words }
 {
-    if words < 1 {
-        return false;
-    }
-    words <= 2
+    1 <= words && words <= 2
 }
 
 // ---- the table of registers
 
-pub const OFFERED_FEATURES: u64 = 0x100;
+// The type of a register's part.
+#[derive(Clone, Copy, PartialEq, Eq)]
+pub enum Kind {
+    OfferedFeatures = 0x100,
+    DriverFeatures = 0x101,
+    CommonField = 0x102,
+    DeviceStatus = 0x103,
+    QueueConfig = 0x104,
+    NotifyConfig = 0x105,
+}
 
-const DRIVER_FEATURES: u64 = 0x101;
+impl Kind {
+    pub fn number(self) -> u64
+        ensures { result ≡ number_of self }
+    {
+        self as u64
+    }
 
-const COMMON_FIELD: u64 = 0x102;
+    // How many of the selector's 8 bytes it uses.
+    pub fn selector_width(self) -> u64
+        ensures { result ≡ selector_width (number_of self) }
+    {
+        selector_width(self.number())
+    }
 
-const DEVICE_STATUS: u64 = 0x103;
+    // The row of a selector number.
+    fn row(self, selector: u64) -> Option<usize>
+        ensures { Names result (number_of self) selector }
+    {
+        match self {
+            Kind::OfferedFeatures => row_among(0, 1, selector),
+            Kind::DriverFeatures => row_among(1, 1, selector),
+            Kind::CommonField => match selector {
+                0 => Some(2),
+                8 => Some(3),
+                16 => Some(4),
+                22 => Some(5),
+                _ => None,
+            },
+            Kind::DeviceStatus => row_among(STATUS_ROW, 1, selector),
+            Kind::QueueConfig => row_among(7, 4, selector),
+            Kind::NotifyConfig => row_among(11, 4, selector),
+        }
+    }
+}
 
-const QUEUE_CONFIG: u64 = 0x104;
+impl TryFrom<u64> for Kind {
+    type Error = Refusal;
 
-const NOTIFY_CONFIG: u64 = 0x105;
+    ghost try_from_gives = { Decodes };
+
+    #[tactic(auto, using(crate::proofs::Listed::listed_kind, crate::proofs::Listed::unlisted_kind))]
+    fn try_from(number: u64) -> Result<Self, Refusal> {
+        match number {
+            0x100 => Ok(Kind::OfferedFeatures),
+            0x101 => Ok(Kind::DriverFeatures),
+            0x102 => Ok(Kind::CommonField),
+            0x103 => Ok(Kind::DeviceStatus),
+            0x104 => Ok(Kind::QueueConfig),
+            0x105 => Ok(Kind::NotifyConfig),
+            _ => Err(Reason::UnknownPart.at(0)),
+        }
+    }
+}
+
+// How many of the selector's 8 bytes a type uses, by its number, which may be any.
+#[tactic(auto, unfolding(crate::specs::Rows::selector_width, answer::specs::Tests::pick))]
+pub fn selector_width(kind: u64) -> u64
+    ensures { result ≡ selector_width kind }
+{
+    if kind == Kind::CommonField.number() {
+        return 4;
+    }
+    if Kind::QueueConfig.number() <= kind {
+        2
+    } else {
+        0
+    }
+}
 
 // How many registers are kept.
 pub const SLOTS: usize = 14;
@@ -88,31 +155,24 @@ pub const ROWS: usize = 15;
 
 pub const STATUS_ROW: usize = 6;
 
-const SELECTORS: [u64; 15] = [0, 0, 0, 8, 16, 22, 0, 0, 1, 2, 3, 0, 1, 2, 3];
+// The one column that is a table: soundness does not ask for it.
+const SELECTORS: [u64; ROWS] = [0, 0, 0, 8, 16, 22, 0, 0, 1, 2, 3, 0, 1, 2, 3];
 
-// Types and sizes go by ranges of rows: soundness asks for both of every register in every call, and a constant table that is indexed is
-// built anew on the stack each time.
+// Types and sizes go by ranges of rows, and not by a table of structs: soundness asks for the size of every register in every call, and a
+// constant table that is indexed is built anew on the stack each time.
 #[tactic(auto, unfolding(crate::specs::Rows::kind_of))]
-pub fn kind_of(row: usize) -> u64
+pub fn kind_of(row: usize) -> Kind
     requires { row < row_count }
-    ensures { result ≡ kind_of row }
+    ensures { number_of result ≡ kind_of row }
 {
-    if row < 1 {
-        return OFFERED_FEATURES;
+    match row {
+        0 => Kind::OfferedFeatures,
+        1 => Kind::DriverFeatures,
+        2..=5 => Kind::CommonField,
+        6 => Kind::DeviceStatus,
+        7..=10 => Kind::QueueConfig,
+        _ => Kind::NotifyConfig,
     }
-    if row < 2 {
-        return DRIVER_FEATURES;
-    }
-    if row < 6 {
-        return COMMON_FIELD;
-    }
-    if row < 7 {
-        return DEVICE_STATUS;
-    }
-    if row < 11 {
-        return QUEUE_CONFIG;
-    }
-    NOTIFY_CONFIG
 }
 
 #[tactic(auto, unfolding(crate::specs::Rows::selector_of))]
@@ -129,83 +189,38 @@ pub fn size_of(words: u8, row: usize) -> usize
     requires { row < row_count }
     ensures { result ≡ size_of words row }
 {
-    if row < 2 {
-        return 8 * words as usize;
-    }
-    if row < 4 {
-        return 4;
-    }
-    if row < 6 {
-        return 2;
-    }
-    if row < 7 {
-        return 1;
-    }
-    if row < 11 {
-        return 32;
-    }
-    8
-}
-
-// The row of a common field at an offset, or `ROWS`.
-fn common_row(offset: u64) -> usize
-    ensures { result ≡ row_of CommonField offset }
-{
-    match offset {
-        0 => 2,
-        8 => 3,
-        16 => 4,
-        22 => 5,
-        _ => ROWS,
+    match row {
+        0..=1 => 8 * words as usize,
+        2..=3 => 4,
+        4..=5 => 2,
+        6 => 1,
+        7..=10 => 32,
+        _ => 8,
     }
 }
 
-// The row of a selector number among the `count` rows of a type from `first` on, or `ROWS`.
+// The row of a selector number among the `count` rows of a type from `first` on.
 #[tactic(auto, unfolding(answer::specs::Tests::pick))]
-fn row_among(first: usize, count: u64, selector: u64) -> usize
+fn row_among(first: usize, count: u64, selector: u64) -> Option<usize>
     requires { first + count ≤ row_count }
-    ensures { result ≡ pick (ltb selector count) (first + selector) row_count }
+    ensures { (unwrap_or result row_count ≡ pick (ltb selector count) (first + selector) row_count) × IfSome result (λ row. row < row_count) }
 {
     if selector < count {
-        first + selector as usize
+        Some(first + selector as usize)
     } else {
-        ROWS
+        None
     }
 }
 
-// The row of a type and a selector number, or `ROWS`.
-pub fn row_of(kind: u64, selector: u64) -> usize
-    ensures { result ≡ row_of kind selector }
+// The row of a type's number and a selector number.
+#[tactic(auto, using(crate::proofs::Listed::row_unlisted))]
+pub fn row_of(kind: u64, selector: u64) -> Option<usize>
+    ensures { Names result kind selector }
 {
-    match kind {
-        OFFERED_FEATURES => row_among(0, 1, selector),
-        DRIVER_FEATURES => row_among(1, 1, selector),
-        COMMON_FIELD => common_row(selector),
-        DEVICE_STATUS => row_among(STATUS_ROW, 1, selector),
-        QUEUE_CONFIG => row_among(7, 4, selector),
-        NOTIFY_CONFIG => row_among(11, 4, selector),
-        _ => ROWS,
+    match Kind::try_from(kind) {
+        Ok(kind) => kind.row(selector),
+        Err(_) => None,
     }
-}
-
-pub fn is_listed(kind: u64) -> bool
-    ensures { result ≡ listed kind }
-{
-    if kind < OFFERED_FEATURES {
-        return false;
-    }
-    kind <= NOTIFY_CONFIG
-}
-
-// How many of the selector's 8 bytes a type uses.
-#[tactic(auto, unfolding(crate::specs::Rows::selector_width, answer::specs::Tests::pick))]
-pub fn selector_width(kind: u64) -> u64
-    ensures { result ≡ selector_width kind }
-{
-    if kind == COMMON_FIELD {
-        return 4;
-    }
-    if QUEUE_CONFIG <= kind { 2 } else { 0 }
 }
 
 // ---- what a value must satisfy
@@ -222,32 +237,24 @@ fn offered_word(i: usize) -> u64
     }
 }
 
-// Whether word `i` of features is what is offered there, or, where it need not be `exact`, has no bit beyond.
+// Whether word `i` of features is what is offered there, or, where it need not be `exact`, has no bit beyond: the
+// definition chooses so too.
 #[tactic(auto, unfolding(answer::specs::Tests::pick, crate::specs::Values::within))]
 fn is_offered(exact: bool, v: &[u8], i: usize) -> bool
     requires { (i < word_room) × (8 * i + 8 ≤ length v.now) }
     ensures { result ≡ pick exact eqb within (field v.now (8 * i) 8) (offered_word i) }
 {
-    let x = wire::get_u64(v, 8 * i);
+    let x = u64::get(v, 8 * i);
     let word = offered_word(i);
-    if exact {
-        return x == word;
-    }
-    x & word == x
+    if exact { x == word } else { x & word == x }
 }
 
-// The same of each word that a card has: one, or two.
+// The same of each word that a card has: one, or two. They are written out, since soundness asks this in every call.
 fn are_offered(words: u8, exact: bool, v: &[u8]) -> bool
     requires { (is_card words ≡ true) × (8 * words ≤ length v.now) }
     ensures { result ≡ each_word (pick exact eqb within) words v.now }
 {
-    if !is_offered(exact, v, 0) {
-        return false;
-    }
-    if words < 2 {
-        return true;
-    }
-    is_offered(exact, v, 1)
+    is_offered(exact, v, 0) && (words < 2 || is_offered(exact, v, 1))
 }
 
 // A power of two from 1 to 256: one of its binary digits is 1. Tests that soundness makes of every register in every call are joined by `&`
@@ -270,58 +277,37 @@ fn is_valid_queue(v: &[u8]) -> bool
     requires { length v.now ≡ 32 }
     ensures { result ≡ valid_queue v.now }
 {
-    let enabled = wire::get_u32(v, 4);
-    let sized = is_valid_size(wire::get_u16(v, 0), enabled);
-    let rest = wire::get_u64(v, 8) % 16 + wire::get_u64(v, 16) % 2 + wire::get_u64(v, 24) % 4;
+    let enabled = u32::get(v, 4);
+    let sized = is_valid_size(u16::get(v, 0), enabled);
+    let rest = u64::get(v, 8) % 16 + u64::get(v, 16) % 2 + u64::get(v, 24) % 4;
     sized & (enabled <= 1) & (rest == 0)
 }
 
-fn fail_unless(code: u32, good: bool) -> Verdict
-    ensures { result ≡ (code unless good) }
-{
-    if good {
-        Verdict::Pass
-    } else {
-        Verdict::Fail(code, 0)
-    }
-}
-
-// Whether a value of the row's size meets the rule of the row's type. Features are to be `exact` in row 0.
+// Whether a value of the row's size meets the rule of the row's type. Features are to be exact in row 0.
 #[tactic(auto, unfolding(crate::specs::Rows::size_of, crate::specs::Rows::size_in, crate::specs::Rows::width_of))]
-fn is_good(words: u8, row: usize, exact: bool, v: &[u8]) -> bool
-    requires { (is_card words ≡ true) × (row < row_count) × (length v.now ≡ size_of words row) × (exact ≡ eqb row 0) }
+fn is_good(words: u8, row: usize, v: &[u8]) -> bool
+    requires { (is_card words ≡ true) × (row < row_count) × (length v.now ≡ size_of words row) }
     ensures { result ≡ passes (content_checks words (kind_of row) v.now) }
 {
-    if row < 2 {
-        return are_offered(words, exact, v);
-    }
-    if row < 7 {
-        return true;
-    }
-    if row < 11 {
-        return is_valid_queue(v);
-    }
-    wire::get_u32(v, 4) == 0
-}
-
-// What a value that breaks its row's rule is refused by.
-#[tactic(auto, unfolding(answer::specs::Tests::pick))]
-fn content_code(row: usize) -> u32
-    ensures { result ≡ pick (ltb row 2) Mismatch Value }
-{
-    if row < 2 {
-        answer::MISMATCH
-    } else {
-        answer::VALUE
+    match row {
+        0..=1 => are_offered(words, row == 0, v),
+        2..=6 => true,
+        7..=10 => is_valid_queue(v),
+        _ => u32::get(v, 4) == 0,
     }
 }
 
 // The rule of a row's type, for a value of the row's size.
-pub fn check_content(words: u8, row: usize, v: &[u8]) -> Verdict
+pub fn check_content(words: u8, row: usize, v: &[u8]) -> Result<(), Refusal>
     requires { (is_card words ≡ true) × (row < row_count) × (length v.now ≡ size_of words row) }
-    ensures { result ≡ content_checks words (kind_of row) v.now }
+    ensures { verdict_of result ≡ content_checks words (kind_of row) v.now }
 {
-    fail_unless(content_code(row), is_good(words, row, row == 0, v))
+    let reason = if row < 2 {
+        Reason::Mismatch
+    } else {
+        Reason::Value
+    };
+    reason.unless(is_good(words, row, v))
 }
 
 // ---- the register file
@@ -370,8 +356,8 @@ pub fn offered() -> Register
     ensures { result ≡ register_of (some (offered_bytes word_room)) }
 {
     let mut bytes = [0u8; 32];
-    wire::put_u64(&mut bytes, 0, offered_word(0));
-    wire::put_u64(&mut bytes, 8, offered_word(1));
+    offered_word(0).put(&mut bytes, 0);
+    offered_word(1).put(&mut bytes, 8);
     Register { set: SET, bytes }
 }
 
@@ -383,9 +369,7 @@ pub fn current(words: u8, registers: Registers, row: usize) -> Register
     if row == 0 {
         return offered();
     }
-    let slots = registers.slots;
-    let i = row - 1;
-    slots[i]
+    registers.slots[row - 1]
 }
 
 // Whether a register that is kept is not set, or holds a value that setting accepts.
@@ -395,7 +379,7 @@ fn is_sound(words: u8, row: usize, r: Register) -> bool
 {
     let size = size_of(words, row);
     let bytes = r.bytes;
-    let good = is_good(words, row, false, &bytes[..size]);
+    let good = is_good(words, row, &bytes[..size]);
     (r.set != SET) | good
 }
 
@@ -437,9 +421,9 @@ pub fn sound(words: u8, registers: Registers) -> bool
 pub fn blank() -> Registers
     ensures { result.slots ≡ slots_of blank_file }
 {
-    let none = unset();
-    let slots = [none; SLOTS];
-    Registers { slots }
+    Registers {
+        slots: [unset(); SLOTS],
+    }
 }
 
 // Status 0, and no other register set.
@@ -447,85 +431,80 @@ pub fn blank() -> Registers
 pub fn reset() -> Registers
     ensures { result.slots ≡ slots_of reset_file }
 {
-    let none = unset();
-    let mut slots = [none; SLOTS];
-    let zero: [u8; 1] = [0];
-    let status = holding(&zero);
-    slots[STATUS_ROW - 1] = status;
-    Registers { slots }
+    let mut registers = blank();
+    registers.slots[STATUS_ROW - 1] = holding(&[0]);
+    registers
 }
 
 // ---- setting and reading by type and selector number
 
-fn check_selector(kind: u64, selector: u64) -> Verdict
-    ensures { result ≡ selector_checks kind selector }
+// The row of a selector number that a type has.
+fn selected(kind: Kind, selector: u64) -> Result<usize, Refusal>
+    ensures checks { verdict_of result ≡ selector_checks (number_of kind) selector }
+    ensures row { IfOk result (λ row. (row ≡ row_of (number_of kind) selector) × (row < row_count)) }
 {
-    if selector_width(kind) == 0 {
-        if 0 < selector {
-            return Verdict::Fail(answer::HEADER, 0);
-        }
-    }
-    fail_unless(answer::INDEX, row_of(kind, selector) < ROWS)
+    Reason::Header.when(kind.selector_width() == 0 && 0 < selector)?;
+    kind.row(selector).ok_or(Reason::Index.at(0))
 }
 
-pub fn check_set(words: u8, kind: u64, selector: u64, v: &[u8]) -> Verdict
+#[tactic(auto, using(answer::proofs::Checks::decides, answer::proofs::Checks::goes_on, crate::proofs::Listed::read_only, crate::proofs::Listed::sized, crate::proofs::Listed::once), unfolding(crate::specs::Access::set_checks, crate::specs::Values::value_checks))]
+pub fn check_set(words: u8, kind: u64, selector: u64, v: &[u8]) -> Result<(), Refusal>
     requires { is_card words ≡ true }
-    ensures { result ≡ set_checks words kind selector v.now }
+    ensures { verdict_of result ≡ set_checks words kind selector v.now }
 {
-    if !is_listed(kind) {
-        return Verdict::Fail(answer::UNKNOWN_PART, 0);
-    }
-    if kind == OFFERED_FEATURES {
-        return Verdict::Fail(answer::READ_ONLY, 0);
-    }
-    let verdict = check_selector(kind, selector);
-    match verdict {
-        Verdict::Fail(code, place) => Verdict::Fail(code, place),
-        Verdict::Pass => {
-            let row = row_of(kind, selector);
-            if v.len() != size_of(words, row) {
-                return Verdict::Fail(answer::VALUE, 0);
-            }
-            check_content(words, row, v)
-        }
-    }
+    let kind = Kind::try_from(kind)?;
+    Reason::ReadOnly.when(kind == Kind::OfferedFeatures)?;
+    let row = selected(kind, selector)?;
+    Reason::Value.unless(v.len() == size_of(words, row))?;
+    check_content(words, row, v)
 }
 
 // The registers with one set to a value. Whatever `check_set` passes names a register that is kept, and fits into it.
+#[tactic(auto, using(crate::proofs::Listed::row_there))]
 pub fn set(registers: Registers, kind: u64, selector: u64, v: &[u8]) -> Registers
     requires { (0 < row_of kind selector) × (row_of kind selector < row_count) × (length v.now ≤ 32) }
     ensures { result.slots ≡ with_element registers.slots (row_of kind selector - 1) (register_of (some v.now)) }
 {
-    let i = row_of(kind, selector) - 1;
-    let r = holding(v);
+    let row = row_of(kind, selector).unwrap();
     let mut slots = registers.slots;
-    slots[i] = r;
+    slots[row - 1] = holding(v);
     Registers { slots }
 }
 
-// Reading into a buffer of `room` bytes.
-pub fn check_read(words: u8, registers: Registers, kind: u64, selector: u64, room: usize) -> Verdict
-    requires { words ≤ word_room }
-    ensures { result ≡ read_checks words (file_of words registers) kind selector room }
+// The same, where the checks pass.
+#[tactic(auto, using(crate::proofs::Access::set_fits))]
+pub fn try_set(
+    words: u8,
+    registers: Registers,
+    kind: u64,
+    selector: u64,
+    v: &[u8],
+) -> Result<Registers, Refusal>
+    requires { is_card words ≡ true }
+    ensures checks { verdict_of result ≡ set_checks words kind selector v.now }
+    ensures registers { IfOk result (λ r. r.slots ≡ with_element registers.slots (row_of kind selector - 1) (register_of (some v.now))) }
 {
-    if !is_listed(kind) {
-        return Verdict::Fail(answer::UNKNOWN_PART, 0);
-    }
-    let verdict = check_selector(kind, selector);
-    match verdict {
-        Verdict::Fail(code, place) => Verdict::Fail(code, place),
-        Verdict::Pass => {
-            let row = row_of(kind, selector);
-            let r = current(words, registers, row);
-            if r.set != SET {
-                return Verdict::Fail(answer::UNSET, 0);
-            }
-            if room < size_of(words, row) {
-                return Verdict::Fail(answer::NO_SPACE, 0);
-            }
-            Verdict::Pass
-        }
-    }
+    check_set(words, kind, selector, v)?;
+    Ok(set(registers, kind, selector, v))
+}
+
+// Reading into a buffer of `room` bytes.
+#[tactic(auto, using(answer::proofs::Checks::decides, answer::proofs::Checks::goes_on, crate::proofs::Access::shown_set), unfolding(crate::specs::Access::read_checks))]
+pub fn check_read(
+    words: u8,
+    registers: Registers,
+    kind: u64,
+    selector: u64,
+    room: usize,
+) -> Result<(), Refusal>
+    requires { words ≤ word_room }
+    ensures { verdict_of result ≡ read_checks words (file_of words registers) kind selector room }
+{
+    let kind = Kind::try_from(kind)?;
+    let row = selected(kind, selector)?;
+    let r = current(words, registers, row);
+    Reason::Unset.unless(r.set == SET)?;
+    Reason::NoSpace.when(room < size_of(words, row))
 }
 
 // Puts the value of a register for which `check_read` passes to the start of the buffer, and reports its length.
@@ -533,10 +512,25 @@ pub fn read(words: u8, registers: Registers, kind: u64, selector: u64, buf: &mut
     requires { (words ≤ word_room) × (read_checks words (file_of words registers) kind selector (length buf.old) ≡ Pass) }
     ensures { (buf.new ≡ sets buf.old 0 (read_value words (file_of words registers) kind selector)) × (result ≡ length (read_value words (file_of words registers) kind selector)) }
 {
-    let row = row_of(kind, selector);
+    let row = row_of(kind, selector).unwrap();
     let r = current(words, registers, row);
     let size = size_of(words, row);
-    let bytes = r.bytes;
-    wire::copy(buf, 0, &bytes, 0, size);
+    wire::copy(buf, 0, &r.bytes, 0, size);
     size
+}
+
+// The same, where the checks pass.
+pub fn try_read(
+    words: u8,
+    registers: Registers,
+    kind: u64,
+    selector: u64,
+    buf: &mut [u8],
+) -> Result<usize, Refusal>
+    requires { words ≤ word_room }
+    ensures checks { verdict_of result ≡ read_checks words (file_of words registers) kind selector (length buf.old) }
+    ensures value { MatchResult result (λ n. (buf.new ≡ sets buf.old 0 (read_value words (file_of words registers) kind selector)) × (n ≡ length (read_value words (file_of words registers) kind selector))) (λ _. buf.new ≡ buf.old) }
+{
+    check_read(words, registers, kind, selector, buf.len())?;
+    Ok(read(words, registers, kind, selector, buf))
 }

@@ -1,4 +1,4 @@
 pub mod Entries
 pub mod Handlers
-pub mod Requests
 pub mod Plans
+pub mod Calls

@@ -1,8 +1,8 @@
-pub mod Numbers
-pub mod Fetches
-pub mod Turns
-pub mod Stepped
 pub mod CardReads
-pub mod Walking
-pub mod Loop
+pub mod Chains
+pub mod Checks
 pub mod Laws
+pub mod Numbers
+pub mod Offering
+pub mod Passing
+pub mod Results

@@ -1,3 +1,4 @@
 pub mod Ring
 pub mod Progress
-pub mod Steps
+pub mod Passes
+pub mod Reads

@@ -4,10 +4,8 @@ use Rattle.std.specs.Prelude.{ℕ, zero, suc, ◌+◌, ◌-◌, ◌*◌, ◌/◌
 use Rattle.std.proofs.Math.Option.{Option, none, some}
 use Rattle.answer.specs.Tests.{pick}
 use Rattle.answer.specs.Codes.{Index, NoSpace, QueueNotReady, RingDistance, DescriptorIndex, ChainLength, Indirect}
-use Rattle.answer.specs.Checks.{◌when◌, ◌unless◌, ◌at◌}
+use Rattle.answer.specs.Checks.{Verdict, Pass, Fail, ◌when◌, ◌unless◌, ◌at◌}
 use Rattle.answer.specs.Answer.{Answer, done, settle, ◌onward◌}
-use Rattle.answer.specs.declared.Verdict.{Verdict}
-use Rattle.answer.specs.declared.Verdict.TheVariants.{Pass, Fail}
 use Rattle.wire.specs.Field.{field}
 use Rattle.address.specs.Address.{device_address}
 use Rattle.iommu.specs.declared.Mapping.{Mapping}

@@ -3,9 +3,10 @@ use Prim.Native.Nat.{ℕ, zero, suc, ◌+◌, ◌*◌, ◌-◌, ◌/◌, ◌%◌
 use native.Mathlib.Nat.{pow-suc, add-suc, suc-add, add-zero, zero-add, mul_comm, mul_assoc}
 use native.Mathlib.Omega.{arith}
 use mathlib.Core.Path.{◌≡◌, refl, sym, ◌∙◌, ap}
-use mathlib.Core.List.{List, [], ◌∷◌, ◌++◌, append-nil}
-use lib.ListN.{length, get_or, set, drop, replicate, length-set, length-drop, drop_of_length-le}
-use lib.Seq.{sets, sets-eq, length-take-le, drop-cons, get_or-drop, get_or-set_other, get_or-set_same}
+use mathlib.Core.List.{List, [], ◌∷◌, ◌++◌, append-nil, append_assoc}
+use lib.ListN.{length, get_or, set, take, drop, replicate, length-set, length-drop, length-replicate, drop_of_length-le}
+use borrow.Rule.Slice.PartMut.{put_mid}
+use lib.Seq.{sets, sets-eq, drop-drop, length-take-le, get_or-drop, get_or-set_other, get_or-set_same}
 use Rattle.wire.specs.Field.{field, bytes_of, slice}
 
 -- ---- bounds
@@ -96,22 +97,6 @@ put-more l at width i y h =
     let f : suc (at + i) ≡ at + (i + 1) = omega arith in
     rw (e, ← f)
 
--- ---- loops that copy and fill, the first byte first
-
-pub copy_more : (l src : List ℕ) (to from n i : ℕ) → i < n → from + n ≤ length src
-    → sets l (to + i) (slice src (from + i) (n - i)) ≡ sets (set l (to + i) (get_or src (from + i) 0)) (to + (i + 1)) (slice src (from + (i + 1)) (n - (i + 1)))
-copy_more l src to from n i h room =
-    let e : n - i ≡ suc (n - (i + 1)) = omega arith in
-    let f : suc (to + i) ≡ to + (i + 1) = omega arith in
-    let g : suc (from + i) ≡ from + (i + 1) = omega arith in
-    rw (e, drop-cons src (from + i) 0 (omega arith), ← f, ← g)
-
-pub fill_more : (l : List ℕ) (at n i v : ℕ) → i < n → sets l (at + i) (replicate (n - i) v) ≡ sets (set l (at + i) v) (at + (i + 1)) (replicate (n - (i + 1)) v)
-fill_more l at n i v h =
-    let e : n - i ≡ suc (n - (i + 1)) = omega arith in
-    let f : suc (at + i) ≡ at + (i + 1) = omega arith in
-    rw (e, ← f)
-
 -- ---- runs of bytes written
 
 -- one run behind another
@@ -127,3 +112,15 @@ length_part l o n h = length-take-le n (drop o l) (omega (arith, length-drop o l
 pub sets-all : (l xs : List ℕ) → length xs ≡ length l → sets l 0 xs ≡ xs
 sets-all l xs e =
     sets-eq xs l 0 (omega arith) ∙ ap (λ (rest : List ℕ). xs ++ rest) (drop_of_length-le l {i = 0 + length xs} (omega arith)) ∙ append-nil xs
+
+-- a part that was written in place, by a method on `&mut l[o..o + k]`
+pub part_written : {X : Type 0} (l ys : List X) (o k : ℕ) → length ys ≡ k → o + k ≤ length l → put_mid o k l ys ≡ sets l o ys
+part_written l ys o k e h =
+    ap (λ (rest : List _). take o l ++ (ys ++ rest)) (drop-drop k o l ∙ ap (λ (n : ℕ). drop (o + n) l) (sym e))
+    ∙ sym (append_assoc (take o l) ys _) ∙ sym (sets-eq ys l o (omega arith))
+
+pub part_filled : {X : Type 0} (l : List X) (o k : ℕ) (v : X) → o + k ≤ length l
+    → put_mid o k l (replicate (length (take k (drop o l))) v) ≡ sets l o (replicate k v)
+part_filled l o k v h =
+    let e : length (take k (drop o l)) ≡ k = length-take-le k (drop o l) (omega (arith, length-drop o l)) in
+    rw e (part_written l (replicate k v) o k (length-replicate k v) h)

@@ -7,5 +7,5 @@ pub returns-then-e-k : goal.returns-then-e-k
 unfolding OnesOf
 returns-then-e-k c t i h = absurd (omega arith)
 
-pub returns : goal.returns
-returns c t = ones_in _ _ _ _ c.requires.0 (c.ones.ensures t)
+pub returns-else-e-k : goal.returns-else-e-k
+returns-else-e-k c t = ones_in _ _ _ _ c.requires.0 (c.ones.ensures t)

@@ -1,77 +1,63 @@
--- Each test decides.
-use Rattle.std.proofs.Common.{◌≡◌, ℕ, ◌+◌, ◌-◌, ◌≤◌, ◌<◌, true, false, List, ltb, length, sym, ◌∙◌, arith, lt-ltb, le-ltb}
-use Rattle.answer.specs.Checks.{◌then◌, ◌when◌, ◌unless◌}
-use Rattle.device_file.specs.Write.{record_length, bare_fits, append_checks}
+-- Each test decides, and the code's say what the definition's do.
+use Rattle.std.proofs.Common.{◌≡◌, ◌+◌, not, length, refl, sym, ◌∙◌, rules, arith}
+use Rattle.answer.specs.Tests.{◌and◌, is_some}
+use Rattle.answer.proofs.Checks.{decides, goes_on, unless_pass}
+use Rattle.device_file.specs.Layout.{is_sub}
+use Rattle.device_file.specs.Scan.{option_in}
+use Rattle.device_file.specs.Write.{record_length}
 use Rattle.device_file.proofs.Records.{index-length}
-use Rattle.device_file.proofs.Writing.{alone, bare_fits_lem}
+use Rattle.device_file.proofs.Writing.{no_region, bare_fits_lem}
+use Rattle.device_file.proofs.Appending.{checks_read}
 use Rattle.device_file.proofs.check_append.Goals as goal
-use Rattle.device_file.proofs.check_append.Goals.{After-bare_fits}
+use Rattle.device_file.proofs.check_append.Goals.{After-when, then-is_sub, else-is_sub}
 
--- whether its length fits
-fitting : (c : After-bare_fits) → c.bare_fits.result ≡ bare_fits c.args.kind (record_length c.args.content.now)
+-- the code's test of a sub-record that has no REGION
+alone : (c : After-when) → c.if-is_sub.when ≡ (is_sub c.args.number and not (is_some (option_in c.args.region)))
+unfolding ◌and◌
+alone c =
+    let sub : c.is_sub.result ≡ is_sub c.args.number = rw (← c.in_ok-kind.ensures.1) c.is_sub.ensures in
+    elim c.if-is_sub.branch [
+      | then-is_sub w ↦ rw (sym sub ∙ w.if-is_sub.true) (w.when-is ∙ no_region c.args.region _ w.is_none.ensures)
+      | else-is_sub w ↦ rw (sym sub ∙ w.if-is_sub.false) (w.when-is ∙ w.if-is_sub.false)
+    ]
+
+pub returns-in_err-kind-clause-checks : goal.returns-in_err-kind-clause-checks
 unfolding record_length
-fitting c = c.bare_fits.ensures
+returns-in_err-kind-clause-checks c =
+    let a = c.args in
+    rw (checks_read a.room a.used (option_in a.region) a.number (8 + length a.content.now) a.content.now _ c.requires refl refl) (search (rules, decides, goes_on))
 
--- whether it ends in the buffer
-past : (room used : ℕ) (v : List ℕ) → used ≤ room → room - used < 8 + length v → ltb room (used + record_length v) ≡ true
+pub returns-in_err-when-clause-checks : goal.returns-in_err-when-clause-checks
 unfolding record_length
-past room used v h s = lt-ltb _ _ (omega arith)
+returns-in_err-when-clause-checks c =
+    let a = c.args in
+    rw (checks_read a.room a.used (option_in a.region) a.number (8 + length a.content.now) a.content.now _ c.requires refl (alone (goal.at.returns-in_err-when-clause-checks c).After-when)) (search (rules, decides, goes_on))
 
-enough : (room used : ℕ) (v : List ℕ) → used ≤ room → 8 + length v ≤ room - used → ltb room (used + record_length v) ≡ false
+pub returns-in_err-unless-clause-checks : goal.returns-in_err-unless-clause-checks
 unfolding record_length
-enough room used v h s = le-ltb _ _ (omega arith)
-
-pub returns-then-not-is_type : goal.returns-then-not-is_type
-unfolding append_checks ◌then◌ ◌unless◌
-returns-then-not-is_type c = rw (sym c.is_type.ensures ∙ c.if-not-is_type.true)
-
-pub returns-then-is_sub-region : goal.returns-then-is_sub-region
-unfolding append_checks ◌then◌ ◌when◌ ◌unless◌
-returns-then-is_sub-region c =
-    rw (sym c.is_type.ensures ∙ c.if-not-is_type.false, sym (alone c.args.kind c.args.region c.is_sub.ensures) ∙ c.if-is_sub-region.true)
-
-pub returns-then-not-bare_fits : goal.returns-then-not-bare_fits
-unfolding append_checks ◌then◌ ◌when◌ ◌unless◌
-returns-then-not-bare_fits c =
-    rw (
-      sym c.is_type.ensures ∙ c.if-not-is_type.false,
-      sym (alone c.args.kind c.args.region c.is_sub.ensures) ∙ c.if-is_sub-region.false,
-      sym (fitting (goal.at.returns-then-not-bare_fits c).After-bare_fits) ∙ c.if-not-bare_fits.true,
-    )
+returns-in_err-unless-clause-checks c =
+    let a = c.args in
+    rw (checks_read a.room a.used (option_in a.region) a.number (8 + length a.content.now) a.content.now _ c.requires refl (alone (goal.at.returns-in_err-unless-clause-checks c).After-when)) (search (rules, decides, goes_on))
 
 pub is_valid_content-requires : goal.is_valid_content-requires
+is_valid_content-requires c = λ e.
+    let fit = bare_fits_lem _ _ (sym c.bare_fits.ensures ∙ unless_pass _ _ (sym c.in_ok-unless.ensures)) in
+    omega (arith, index-length _ _ fit e)
+
+pub returns-in_err-unless-2-clause-checks : goal.returns-in_err-unless-2-clause-checks
 unfolding record_length
-is_valid_content-requires c e =
-    omega (arith, index-length _ _ (bare_fits_lem _ _ (sym (fitting (goal.at.is_valid_content-requires c).After-bare_fits) ∙ c.if-not-bare_fits.false)) e)
+returns-in_err-unless-2-clause-checks c =
+    let a = c.args in
+    rw (checks_read a.room a.used (option_in a.region) a.number (8 + length a.content.now) a.content.now _ c.requires refl (alone (goal.at.returns-in_err-unless-2-clause-checks c).After-when)) (search (rules, decides, goes_on))
 
-pub returns-then-not-is_valid_content : goal.returns-then-not-is_valid_content
-unfolding append_checks ◌then◌ ◌when◌ ◌unless◌
-returns-then-not-is_valid_content c =
-    rw (
-      sym c.is_type.ensures ∙ c.if-not-is_type.false,
-      sym (alone c.args.kind c.args.region c.is_sub.ensures) ∙ c.if-is_sub-region.false,
-      sym (fitting (goal.at.returns-then-not-is_valid_content c).After-bare_fits) ∙ c.if-not-bare_fits.false,
-      sym c.is_valid_content.ensures ∙ c.if-not-is_valid_content.true,
-    )
+pub returns-in_err-when-2-clause-checks : goal.returns-in_err-when-2-clause-checks
+unfolding record_length
+returns-in_err-when-2-clause-checks c =
+    let a = c.args in
+    rw (checks_read a.room a.used (option_in a.region) a.number (8 + length a.content.now) a.content.now _ c.requires refl (alone (goal.at.returns-in_err-when-2-clause-checks c).After-when)) (search (rules, decides, goes_on))
 
-pub returns-then-room-used : goal.returns-then-room-used
-unfolding append_checks ◌then◌ ◌when◌ ◌unless◌
-returns-then-room-used c =
-    rw (
-      sym c.is_type.ensures ∙ c.if-not-is_type.false,
-      sym (alone c.args.kind c.args.region c.is_sub.ensures) ∙ c.if-is_sub-region.false,
-      sym (fitting (goal.at.returns-then-room-used c).After-bare_fits) ∙ c.if-not-bare_fits.false,
-      sym c.is_valid_content.ensures ∙ c.if-not-is_valid_content.false,
-      past c.args.room c.args.used c.args.content.now c.requires c.if-room-used.true,
-    )
-
-pub returns : goal.returns
-unfolding append_checks ◌then◌ ◌when◌ ◌unless◌
-returns c =
-    rw (
-      sym c.is_type.ensures ∙ c.if-not-is_type.false,
-      sym (alone c.args.kind c.args.region c.is_sub.ensures) ∙ c.if-is_sub-region.false,
-      sym (fitting (goal.at.returns c).After-bare_fits) ∙ c.if-not-bare_fits.false,
-      sym c.is_valid_content.ensures ∙ c.if-not-is_valid_content.false,
-      enough c.args.room c.args.used c.args.content.now c.requires c.if-room-used.false,
-    )
+pub returns-clause-checks : goal.returns-clause-checks
+unfolding record_length
+returns-clause-checks c =
+    let a = c.args in
+    rw (checks_read a.room a.used (option_in a.region) a.number (8 + length a.content.now) a.content.now _ c.requires refl (alone (goal.at.returns-clause-checks c).After-when)) (search (rules, decides, goes_on))

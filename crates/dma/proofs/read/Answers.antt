@@ -1,26 +1,40 @@
-use Rattle.std.proofs.Common.{sym, ◌∙◌}
-use Rattle.iommu.specs.Table.{table_of}
-use Rattle.dma.proofs.Ahead.{entry-at}
-use Rattle.dma.proofs.Steps.{reading-from, reading_bounds, reading_on, reading-less, reading-over}
+use Rattle.std.proofs.Common.{refl, arith, add-zero, add_assoc}
+use Rattle.dma.proofs.Steps.{turn, items-end, no_gap, reading-start, reading-done, reading-end, reading-run}
 use Rattle.dma.proofs.read.Goals as goal
 
-pub loop-d-init : goal.loop-d-init
-loop-d-init c = reading-from _ _ _ c.requires.0 c.requires.1 _ c.requires.2 _ c.walk_from-w.ensures
+pub loop-m-init : goal.loop-m-init
+loop-m-init c = rw (add-zero c.args.first) (reading-start _ _ _ c.requires.0 c.requires.1 _ c.requires.2)
 
-pub read_run-w-requires : goal.read_run-w-requires
-read_run-w-requires c =
-    let e = entry-at (table_of c.args.records.now c.args.count) _ _ c.record_of.ensures _ c.get.ensures in
-    reading_bounds c.loop-d.invariant (sym c.walking.ensures ∙ c.loop-d-test.true) _ e
+pub run_at-requires : goal.run_at-requires
+run_at-requires c = let s = c.loop-m.invariant in (turn _ _ s.walk c.loop-m-test.true c.if-done-n.false).asks s.accepted.range
 
-pub loop-d-smaller : goal.loop-d-smaller
-loop-d-smaller c =
-    let e = entry-at (table_of c.args.records.now c.args.count) _ _ c.record_of.ensures _ c.get.ensures in
-    reading-less c.loop-d.invariant (sym c.walking.ensures ∙ c.loop-d-test.true) _ e _ c.read_run-w.ensures.0
+pub unwrap-run-requires : goal.unwrap-run-requires
+unwrap-run-requires c =
+    let s = c.loop-m.invariant in
+    let t = turn _ _ s.walk c.loop-m-test.true c.if-done-n.false in
+    no_gap s.accepted s.walk _ (t.next c.run_at.ensures refl) t.left
 
-pub loop-d-preserved : goal.loop-d-preserved
-loop-d-preserved c =
-    let e = entry-at (table_of c.args.records.now c.args.count) _ _ c.record_of.ensures _ c.get.ensures in
-    reading_on c.loop-d.invariant (sym c.walking.ensures ∙ c.loop-d-test.true) _ e _ _ c.read_run-w.ensures
+pub copy-requires : goal.copy-requires
+copy-requires c =
+    let s = c.loop-m.invariant in
+    let t = turn _ _ s.walk c.loop-m-test.true c.if-done-n.false in
+    let room = t.room (t.next c.run_at.ensures c.unwrap-run.ensures) in
+    (omega (arith, room.1, s.long), room.0)
 
-pub returns : goal.returns
-returns c = reading-over c.loop-d.invariant (sym c.walking.ensures ∙ c.loop-d-test.false)
+pub overflow_add-done : goal.overflow_add-done
+overflow_add-done c =
+    let s = c.loop-m.invariant in
+    let t = turn _ _ s.walk c.loop-m-test.true c.if-done-n.false in
+    omega (arith, (t.room (t.next c.run_at.ensures c.unwrap-run.ensures)).1, s.accepted.range)
+
+pub loop-m-preserved : goal.loop-m-preserved
+loop-m-preserved c =
+    let s = c.loop-m.invariant in
+    let t = turn _ _ s.walk c.loop-m-test.true c.if-done-n.false in
+    rw (← add_assoc c.args.first c.loop-m.m-index 1) (reading-run s t.more t.left (t.next c.run_at.ensures c.unwrap-run.ensures) _ c.copy.ensures)
+
+pub returns-after-loop-m : goal.returns-after-loop-m
+returns-after-loop-m c = reading-end c.loop-m.invariant (items-end _ _ _ c.loop-m-test.false)
+
+pub returns-then-done-n : goal.returns-then-done-n
+returns-then-done-n c = reading-done c.loop-m.invariant (omega arith)

@@ -1,26 +1,37 @@
-use Rattle.std.proofs.Common.{sym, ◌∙◌}
-use Rattle.iommu.specs.Table.{table_of}
-use Rattle.dma.proofs.Ahead.{entry-at}
-use Rattle.dma.proofs.Steps.{writing-from, writing_bounds, writing_on, writing-less, writing-over}
+use Rattle.std.proofs.Common.{refl, arith, add_assoc}
+use Rattle.dma.proofs.Steps.{turn, items-end, no_gap, writing-done, writing-end, writing-run}
 use Rattle.dma.proofs.write.Goals as goal
 
-pub loop-d-init : goal.loop-d-init
-loop-d-init c = writing-from _ _ _ c.requires.0 c.requires.2 _ c.requires.3 _ c.walk_from-w.ensures
+pub run_at-requires : goal.run_at-requires
+run_at-requires c = let s = c.loop-m.invariant in (turn _ _ s.walk c.loop-m-test.true c.if-done-n.false).asks s.accepted.range
 
-pub write_run-w-requires : goal.write_run-w-requires
-write_run-w-requires c =
-    let e = entry-at (table_of c.args.records.now c.args.count) _ _ c.record_of.ensures _ c.get.ensures in
-    writing_bounds c.loop-d.invariant (sym c.walking.ensures ∙ c.loop-d-test.true) _ e c.requires.1
+pub unwrap-run-requires : goal.unwrap-run-requires
+unwrap-run-requires c =
+    let s = c.loop-m.invariant in
+    let t = turn _ _ s.walk c.loop-m-test.true c.if-done-n.false in
+    no_gap s.accepted s.walk _ (t.next c.run_at.ensures refl) t.left
 
-pub loop-d-smaller : goal.loop-d-smaller
-loop-d-smaller c =
-    let e = entry-at (table_of c.args.records.now c.args.count) _ _ c.record_of.ensures _ c.get.ensures in
-    writing-less c.loop-d.invariant (sym c.walking.ensures ∙ c.loop-d-test.true) _ e _ c.write_run-w.ensures.0
+pub store-requires : goal.store-requires
+store-requires c =
+    let s = c.loop-m.invariant in
+    let t = turn _ _ s.walk c.loop-m-test.true c.if-done-n.false in
+    let room = t.room (t.next c.run_at.ensures c.unwrap-run.ensures) in
+    (omega (arith, room.0, s.bytes-long), omega (arith, room.0, s.shadow-long, c.requires.1), room.1)
 
-pub loop-d-preserved : goal.loop-d-preserved
-loop-d-preserved c =
-    let e = entry-at (table_of c.args.records.now c.args.count) _ _ c.record_of.ensures _ c.get.ensures in
-    writing_on c.loop-d.invariant (sym c.walking.ensures ∙ c.loop-d-test.true) _ e _ _ _ c.write_run-w.ensures
+pub overflow_add-done : goal.overflow_add-done
+overflow_add-done c =
+    let s = c.loop-m.invariant in
+    let t = turn _ _ s.walk c.loop-m-test.true c.if-done-n.false in
+    omega (arith, (t.room (t.next c.run_at.ensures c.unwrap-run.ensures)).1, s.accepted.range)
 
-pub returns : goal.returns
-returns c = writing-over c.loop-d.invariant (sym c.walking.ensures ∙ c.loop-d-test.false)
+pub loop-m-preserved : goal.loop-m-preserved
+loop-m-preserved c =
+    let s = c.loop-m.invariant in
+    let t = turn _ _ s.walk c.loop-m-test.true c.if-done-n.false in
+    rw (← add_assoc c.args.first c.loop-m.m-index 1) (writing-run s t.more t.left (t.next c.run_at.ensures c.unwrap-run.ensures) _ c.store.ensures)
+
+pub returns-after-loop-m : goal.returns-after-loop-m
+returns-after-loop-m c = writing-end c.loop-m.invariant (items-end _ _ _ c.loop-m-test.false)
+
+pub returns-then-done-n : goal.returns-then-done-n
+returns-then-done-n c = writing-done c.loop-m.invariant (omega arith)

@@ -1,20 +1,33 @@
-use Rattle.std.proofs.Common.{sym, ◌∙◌, arith}
-use Rattle.emulator.specs.Calls.{given}
-use Rattle.emulator.proofs.Meets.{bad_bench}
-use Rattle.emulator.proofs.HostTransfers.{write-room, write-refused, write_done}
+use Rattle.std.proofs.Common.{refl, sym, ◌∙◌, ap, arith, List, ℕ}
+use lib.Seq.{take-length}
+use Rattle.answer.proofs.Checks.{unless_pass}
+use Rattle.memory.specs.Memory.{stores, edited, memory_of}
+use Rattle.memory.proofs.Transfers.{host_write-room}
+use Rattle.emulator.specs.Machine.{emulator_of}
+use Rattle.emulator.specs.Effect.{filled}
+use Rattle.emulator.specs.Calls.{host_write, given, own_checks, effect}
+use Rattle.emulator.specs.Contract.{writes, state_with, records_with}
+use Rattle.emulator.proofs.Meets.{bench_up, refusal_up, accepted}
+use Rattle.emulator.proofs.Soundness.{mark_room, usable-lent}
 use Rattle.emulator.proofs.host_write.Goals as goal
 
-pub returns-then-not-ok : goal.returns-then-not-ok
+pub returns-in_err-check_usable : goal.returns-in_err-check_usable
 unfolding given
-returns-then-not-ok c s rs e = bad_bench _ _ s rs _ (sym e ∙ c.if-not-ok.true)
+returns-in_err-check_usable c = bench_up _ c.from_residual.result _ c.from_residual.ensures c.in_err-check_usable.ensures
+
+pub returns-in_err-check_host_write : goal.returns-in_err-check_host_write
+unfolding given own_checks emulator_of
+returns-in_err-check_host_write c =
+    refusal_up _ c.from_residual-in_err-check_host_write.result _ c.from_residual-in_err-check_host_write.ensures c.in_ok-check_usable.ensures c.in_err-check_host_write.ensures
 
 pub store-requires : goal.store-requires
 store-requires c =
-    let room = write-room _ _ _ (c.requires c.if-not-ok.false) (sym c.in-Pass.ensures) in
-    (room.0, room.1, omega arith)
+    let room = host_write-room _ _ _ (sym c.in_ok-check_host_write.ensures) in
+    (room, omega (arith, room, mark_room _ (usable-lent _ _ _ (unless_pass _ _ (sym c.in_ok-check_usable.ensures)))), omega arith)
 
-pub returns-in-Fail : goal.returns-in-Fail
-returns-in-Fail c s rs e = write-refused _ _ s rs _ (sym e ∙ c.if-not-ok.false) _ _ (sym c.in-Fail.ensures)
-
-pub returns-in-Pass : goal.returns-in-Pass
-returns-in-Pass c s rs e = write_done _ _ s rs _ (sym e ∙ c.if-not-ok.false) _ (sym c.in-Pass.ensures) c.store.ensures
+pub returns : goal.returns
+unfolding given own_checks effect emulator_of writes state_with records_with filled
+returns c =
+    let a = c.args in
+    accepted (host_write a.a) a.buf.now _ _ _ a.buf.now _ _ _ c.in_ok-check_usable.ensures c.in_ok-check_host_write.ensures refl
+    (c.store.ensures ∙ ap (λ (l : List ℕ). edited (stores a.a l) (memory_of a.bytes.now a.shadow.now)) (take-length a.buf.now)) refl refl

@@ -1,24 +1,28 @@
-use Rattle.std.proofs.Common.{sym, ◌∙◌}
-use Rattle.registers.proofs.Cards.{card-small}
-use Rattle.emulator.specs.Machine.{usable, emulator_of}
-use Rattle.emulator.specs.Calls.{given}
-use Rattle.emulator.proofs.Meets.{bad_bench}
-use Rattle.emulator.proofs.StateCalls.{read-refused, read_done}
+use Rattle.std.proofs.Common.{refl, sym}
+use Rattle.answer.proofs.Checks.{unless_pass}
+use Rattle.memory.specs.Memory.{edited}
+use Rattle.emulator.specs.Machine.{usable, emulator_of, machine_of}
+use Rattle.emulator.specs.Effect.{filled}
+use Rattle.emulator.specs.Calls.{read_register, given, own_checks, effect}
+use Rattle.emulator.specs.Contract.{writes, state_with, records_with}
+use Rattle.emulator.proofs.Meets.{bench_up, refusal_up, accepted}
+use Rattle.emulator.proofs.Soundness.{sound-small}
 use Rattle.emulator.proofs.read_register.Goals as goal
 
-pub returns-then-not-ok : goal.returns-then-not-ok
+pub returns-in_err-check_sound : goal.returns-in_err-check_sound
 unfolding given usable emulator_of
-returns-then-not-ok c s rs e card same m = bad_bench _ _ s rs m (sym e ∙ c.if-not-ok.true)
+returns-in_err-check_sound c m = bench_up _ c.from_residual.result _ c.from_residual.ensures c.in_err-check_sound.ensures
 
-pub check_read-verdict-requires : goal.check_read-verdict-requires
-check_read-verdict-requires c = card-small _ (c.requires c.if-not-ok.false)
+pub try_read-requires : goal.try_read-requires
+try_read-requires c = sound-small _ _ (unless_pass _ _ (sym c.in_ok-check_sound.ensures))
 
-pub read-n-requires : goal.read-n-requires
-read-n-requires c = (card-small _ (c.requires c.if-not-ok.false), sym c.in-Pass.ensures)
+pub returns-in_err-n : goal.returns-in_err-n
+unfolding given usable own_checks emulator_of machine_of
+returns-in_err-n c m =
+    rw c.in_err-n.ensures.value
+    (refusal_up _ c.from_residual-in_err-n.result _ c.from_residual-in_err-n.ensures c.in_ok-check_sound.ensures c.in_err-n.ensures.checks)
 
-pub returns-in-Fail : goal.returns-in-Fail
-returns-in-Fail c s rs e card same m = read-refused s rs (sym e ∙ c.if-not-ok.false) m card same _ _ _ _ _ (sym c.in-Fail.ensures)
-
-pub returns-in-Pass : goal.returns-in-Pass
-returns-in-Pass c s rs e card same m =
-    read_done s rs (sym e ∙ c.if-not-ok.false) m card same _ _ _ _ _ (sym c.in-Pass.ensures) c.read-n.ensures.0 c.read-n.ensures.1
+pub returns : goal.returns
+unfolding given usable own_checks effect emulator_of machine_of writes state_with records_with filled edited
+returns c m =
+    rw c.in_ok-n.ensures.value.1 (accepted (read_register _ _) _ _ _ m _ _ _ _ c.in_ok-check_sound.ensures c.in_ok-n.ensures.checks c.in_ok-n.ensures.value.0 refl refl refl)

@@ -1,27 +1,17 @@
-use Rattle.std.proofs.Common.{◌≡◌, sym, ◌∙◌, add-one, arith}
-use Rattle.answer.specs.Tests.{◌or◌}
+use Rattle.std.proofs.Common.{◌≡◌, ℕ, refl, rules, ◌∙◌, arith}
+use Rattle.std.specs.List.{list_any, range_with_len}
+use Rattle.std.proofs.lemmas.Iterator.{YieldsList-from_range}
+use Rattle.std.proofs.lemmas.Iterator.Search.{any_from_yields_List}
+use borrow.Author.Tests.{tests}
 use Rattle.interrupts.specs.Lines.{lower}
-use Rattle.interrupts.specs.Requests.{event_at, any_lower}
-use Rattle.interrupts.proofs.Numbers.{read_back}
-use Rattle.interrupts.proofs.Requests.{any_found}
+use Rattle.interrupts.specs.Requests.{event_at}
+use Rattle.interrupts.proofs.Requests.{any-ranged}
 use Rattle.interrupts.proofs.any_lower.Goals as goal
-use Rattle.interrupts.proofs.any_lower.Goals.{After-is_lower}
 
--- what the test of a number is
-judged : (c : After-is_lower) → c.is_lower.result ≡ lower (event_at c.args.buf.now c.loop-i.i)
-unfolding lower event_at
-judged c = rw (c.is_lower.ensures, read_back c.get_u32-bits.result c.event_number.ensures, c.get_u32-bits.ensures)
-
-pub returns-then-is_lower : goal.returns-then-is_lower
-returns-then-is_lower c =
-    let test : lower (event_at c.args.buf.now c.loop-i.i) ≡ c.is_lower.result = sym (judged (goal.at.returns-then-is_lower c).After-is_lower) in
-    sym (any_found c.args.buf.now c.args.count c.loop-i.i c.loop-i-test.true (test ∙ c.if-is_lower.true))
-
-pub loop-i-preserved : goal.loop-i-preserved
-unfolding any_lower ◌or◌
-loop-i-preserved c =
-    let test : lower (event_at c.args.buf.now c.loop-i.i) ≡ c.is_lower.result = sym (judged (goal.at.loop-i-preserved c).After-is_lower) in
-    record {
-      in_range = omega arith;
-      none_lower = simp add-one (rw (c.loop-i.invariant.none_lower, test ∙ c.if-is_lower.false));
-    }
+pub returns : goal.returns
+returns c =
+    let buf = c.args.buf.now in
+    let n = c.args.count in
+    let any : c.any.result ≡ list_any (λ (j : ℕ). lower (event_at buf j)) (range_with_len 0 n) =
+    any_from_yields_List (λ (j : ℕ). lower (event_at buf j)) _ _ c.any.result c.any.ensures.ran (YieldsList-from_range 0 n n refl (omega arith)) (λ x b q k. search (rules, tests)) in
+    any ∙ any-ranged buf n

@@ -13,11 +13,11 @@ unfolding show_checks
 below c =
     omega (arith, c.first_of.ensures, index-within c.args.index, ltb-true c.args.line (index_at c.args.index).count (and_true _ _ (unless_pass _ _ c.requires)).1)
 
-pub overflow_add-at : goal.overflow_add-at
-overflow_add-at c = record { fits = omega (arith, below c) }
+pub overflow_add-result : goal.overflow_add-result
+overflow_add-result c = record { fits = omega (arith, below c) }
 
-pub offset_bounds-lines-at : goal.offset_bounds-lines-at
-offset_bounds-lines-at c = record { fits = omega (arith, below c) }
+pub offset_bounds-lines-first_of : goal.offset_bounds-lines-first_of
+offset_bounds-lines-first_of c = record { fits = omega (arith, below c) }
 
-pub bounds-lines-at : goal.bounds-lines-at
-bounds-lines-at c = below c
+pub bounds-lines-first_of : goal.bounds-lines-first_of
+bounds-lines-first_of c = below c

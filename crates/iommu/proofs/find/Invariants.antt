@@ -1,10 +1,10 @@
-use Rattle.std.proofs.Common.{◌-◌}
-use Rattle.iommu.specs.Table.{table_of, in_use}
+use Rattle.std.proofs.Common.{◌-◌, false}
+use Rattle.iommu.specs.Halving.{search}
 use Rattle.iommu.proofs.Halving.{Seeking}
 use Rattle.iommu.proofs.find.Given as goal
 
-abbrev pub invariant-loop-d : goal.invariant-loop-d
-invariant-loop-d l = Seeking (in_use (table_of l.records l.count)) l.d l.count l.s
+abbrev pub invariant-loop-lo : goal.invariant-loop-lo
+invariant-loop-lo l = Seeking l.mappings l.d (search l.lo l.hi l.probes false)
 
-abbrev pub decreases-loop-d : goal.decreases-loop-d
-decreases-loop-d l = l.s.hi - l.s.lo
+abbrev pub decreases-loop-lo : goal.decreases-loop-lo
+decreases-loop-lo l = l.hi - l.lo

@@ -1,15 +1,15 @@
-use Rattle.iommu.specs.Table.{table_of}
-use Rattle.iommu.proofs.Sums.{sum_start, sum_fits, sum_on, sum_end}
+use Rattle.std.proofs.Common.{rules, arith, ◌-◌, ◌^◌, ◌<◌, take, drop}
+use Rattle.std.specs.Prelude.{sum_by}
+use Rattle.iommu.specs.declared.Mapping.{Mapping}
+use Rattle.iommu.proofs.Sums.{sizes-limit, sizes_sum}
 use Rattle.iommu.proofs.sizes.Goals as goal
 
-pub loop-i-init : goal.loop-i-init
-loop-i-init c = sum_start _ _ (table_of c.args.records.now c.args.count) c.requires.1 c.requires.2 c.requires.0
-
-pub added-sum-requires : goal.added-sum-requires
-added-sum-requires c = sum_fits c.loop-i.invariant c.loop-i-test.true _ c.get.ensures
-
-pub loop-i-preserved : goal.loop-i-preserved
-loop-i-preserved c = sum_on c.loop-i.invariant c.loop-i-test.true _ c.get.ensures _ c.added-sum.ensures
+pub sum-requires-clause-fits : goal.sum-requires-clause-fits
+sum-requires-clause-fits c =
+    let r = c.args.run in
+    let b : sum_by (λ (m : Mapping). m.size) (take (r.to - r.from) (drop r.from c.args.mappings.now)) < 2 ^ 64 =
+    omega (arith, sizes-limit _ r.from r.to c.args.mappings.now c.requires.0.table, sizes_sum r.from r.to c.args.mappings.now) in
+    search rules
 
 pub returns : goal.returns
-returns c = sum_end c.loop-i.invariant c.loop-i-test.false
+returns c = rw (sizes_sum c.args.run.from c.args.run.to c.args.mappings.now) (search rules)

@@ -8,14 +8,14 @@ returns-then-all_ones c size room = sym (run-ones size _ _ _ room (c.all_ones.en
 
 pub loop-run-init : goal.loop-run-init
 unfolding OnesOf
-loop-run-init c = c.ones_ahead-run.ensures
+loop-run-init c = c.ones_ahead-run.ensures.1
 
 pub returns-then-not-is_one : goal.returns-then-not-is_one
 returns-then-not-is_one c size room =
     run_is _ _ _ _
     (record {
       within = omega arith;
-      before = λ k h. mark_is size _ _ (omega arith) true (eq-eqb _ _ (c.loop-run.invariant.1 k h));
+      before = λ k h. mark_is size _ _ (omega arith) true (eq-eqb _ _ (c.loop-run.invariant k h));
       stop = λ h. mark_is size _ _ (omega arith) false (sym c.is_one.ensures ∙ c.if-not-is_one.true);
     })
 
@@ -24,6 +24,6 @@ returns c size room =
     run_is _ _ _ _
     (record {
       within = omega arith;
-      before = λ k h. mark_is size _ _ (omega arith) true (eq-eqb _ _ (c.loop-run.invariant.1 k (omega arith)));
+      before = λ k h. mark_is size _ _ (omega arith) true (eq-eqb _ _ (c.loop-run.invariant k (omega arith)));
       stop = λ h. absurd (omega arith);
     })

@@ -1,45 +1,67 @@
 -- `parts::check_listed` meets its contract.
-use Rattle.std.proofs.Common.{ℕ, Bool, List, ◌≡◌, ◌<◌, ◌^◌, sym, ◌∙◌}
-use borrow.Author.Tests.{eq-eqb, ne_eqb, lt-ltb, le-ltb}
-use Rattle.answer.specs.Checks.{◌then◌, ◌unless◌}
-use Rattle.registers.specs.Rows.{row_count, row_of, selects, selector_width}
-use Rattle.registers.specs.Values.{value_checks}
-use Rattle.registers.proofs.Values.{value-long, value_twice, value-content}
+use Rattle.std.proofs.Common.{◌≡◌, ◌<◌, ◌^◌, eqb, ltb, length, sym, ◌∙◌, ap}
+use Rattle.std.proofs.lemmas.Result.{err_from_is_err_and}
+use borrow.Author.Tests.{eqb-true}
+use Rattle.answer.specs.Answer.{verdict_of}
+use Rattle.answer.specs.Codes.{Header, Value, Twice}
+use Rattle.answer.specs.Checks.{Pass, ◌then◌, ◌when◌, ◌unless◌}
+use Rattle.answer.proofs.Checks.{unless_pass, decides, goes_on}
+use Rattle.registers.specs.Rows.{row_count, kind_of, selector_width, selects, size_of}
+use Rattle.registers.specs.Values.{content_checks}
+use Rattle.registers.proofs.Listed.{row_found}
 use Rattle.parts.specs.Load.{flags_of, listed_checks}
+use Rattle.parts.proofs.Loading.{listed-left}
 use Rattle.parts.proofs.check_listed.Goals as goal
+use Rattle.parts.proofs.check_listed.Goals.{In_ok-unless, In_ok-unless-2, In_ok-row, In_ok-unless-3}
 
--- the checks that are left for a row that is listed
-rest : (w : ℕ) (twice : Bool) (kind flags selector row f n : ℕ) (v : List ℕ) → f ≡ flags_of kind → flags ≡ f → n ≡ 256 ^ selector_width kind → selector < n
-    → row ≡ row_of kind selector → row < row_count → listed_checks w twice kind flags selector v ≡ value_checks w row twice v
-unfolding listed_checks ◌then◌ ◌unless◌ selects
-rest w twice kind flags selector row f n v e g l lt r row-lt = rw (← e, eq-eqb _ _ g, ← l, lt-ltb _ _ lt, ← r, lt-ltb _ _ row-lt)
+-- what the checks found
+flagged : (c : In_ok-unless) → Pass ≡ (Header unless eqb c.args.part.flags (flags_of c.args.part.kind))
+flagged c = rw (c.flags.ensures, c.requires.1) at c.in_ok-unless.ensures
 
-pub returns-then-flags-flags_of : goal.returns-then-flags-flags_of
-unfolding listed_checks ◌then◌ ◌unless◌
-returns-then-flags-flags_of c = rw (← c.flags_of.ensures, ne_eqb _ _ c.if-flags-flags_of.true)
+fits : (c : In_ok-unless-2) → Pass ≡ (Header unless ltb c.args.part.selector (256 ^ selector_width c.args.part.kind))
+fits c = rw (c.selector_limit.ensures, c.requires.1) at c.in_ok-unless-2.ensures
 
-pub returns-then-selector_limit-selector : goal.returns-then-selector_limit-selector
-unfolding listed_checks ◌then◌ ◌unless◌
-returns-then-selector_limit-selector c =
-    rw (← c.flags_of.ensures, eq-eqb _ _ c.if-flags-flags_of.false, ← c.selector_limit.ensures, le-ltb _ _ c.if-selector_limit-selector.true)
+bound : (c : In_ok-row) → c.in_ok-row.row < row_count
+bound c = rw c.in_ok-row.ensures.ok_part at c.requires.2.1
 
-pub returns-then-row-ge-ROWS : goal.returns-then-row-ge-ROWS
-unfolding listed_checks ◌then◌ ◌unless◌ selects
-returns-then-row-ge-ROWS c =
-    rw (← c.flags_of.ensures, eq-eqb _ _ c.if-flags-flags_of.false, ← c.selector_limit.ensures, lt-ltb _ _ c.if-selector_limit-selector.false, ← c.requires.1, le-ltb _ _ c.if-row-ge-ROWS.true)
+left : (c : In_ok-row) → let a = c.args in
+    (Value unless eqb (length a.v.now) (size_of a.words c.in_ok-row.row) then Twice when a.twice then content_checks a.words (kind_of c.in_ok-row.row) a.v.now)
+    ≡ listed_checks a.words a.twice a.part.kind a.part.flags a.part.selector a.v.now
+left c =
+    let flags = rw (c.flags.ensures, c.requires.1) at c.in_ok-unless.ensures in
+    let low = rw (c.selector_limit.ensures, c.requires.1) at c.in_ok-unless-2.ensures in
+    listed-left _ _ _ _ _ _ _ flags low (rw c.in_ok-row.ensures.ok_part at c.requires.2.0) (bound c)
 
-pub returns-then-v-size_of : goal.returns-then-v-size_of
-returns-then-v-size_of c =
-    sym (rest _ _ _ _ _ _ _ _ _ c.flags_of.ensures c.if-flags-flags_of.false c.selector_limit.ensures c.if-selector_limit-selector.false c.requires.1 c.if-row-ge-ROWS.false
-    ∙ value-long _ _ _ _ (λ e. c.if-v-size_of.true (e ∙ sym c.size_of.ensures)))
+sized : (c : In_ok-unless-3) → Pass ≡ (Value unless eqb (length c.args.v.now) (size_of c.args.words c.in_ok-row.row))
+sized c = rw c.size_of.ensures at c.in_ok-unless-3.ensures
 
-pub returns-then-twice : goal.returns-then-twice
-returns-then-twice c =
-    sym (rest _ _ _ _ _ _ _ _ _ c.flags_of.ensures c.if-flags-flags_of.false c.selector_limit.ensures c.if-selector_limit-selector.false c.requires.1 c.if-row-ge-ROWS.false
-    ∙ rw c.if-twice.true (value_twice _ _ _ (c.if-v-size_of.false ∙ c.size_of.ensures)))
+pub returns-in_err-row : goal.returns-in_err-row
+unfolding listed_checks selects
+returns-in_err-row c =
+    let p = err_from_is_err_and c.from_residual-in_err-row.result c.from_residual-in_err-row.ensures.1 in
+    let m = goal.at.returns-in_err-row c in
+    rw (p.1, p.2)
+    (goes_on _ _ _ (flagged m.In_ok-unless)
+    (goes_on _ _ _ (fits m.In_ok-unless-2)
+    (decides _ _ _ _ (ap verdict_of c.in_err-row.ensures.value ∙ rw c.at.ensures (row_found _ _ c.requires.2.0 c.requires.2.1)))))
+
+pub returns-in_err-unless-3 : goal.returns-in_err-unless-3
+returns-in_err-unless-3 c =
+    let p = err_from_is_err_and c.from_residual-in_err-unless-3.result c.from_residual-in_err-unless-3.ensures.1 in
+    rw (p.1, p.2) (decides _ _ _ _ (rw c.size_of.ensures at c.in_err-unless-3.ensures) ∙ left (goal.at.returns-in_err-unless-3 c).In_ok-row)
+
+pub returns-in_err-when : goal.returns-in_err-when
+returns-in_err-when c =
+    let p = err_from_is_err_and c.from_residual-in_err-when.result c.from_residual-in_err-when.ensures.1 in
+    let m = goal.at.returns-in_err-when c in
+    rw (p.1, p.2) (goes_on _ _ _ (sized m.In_ok-unless-3) (decides _ _ _ _ c.in_err-when.ensures) ∙ left m.In_ok-row)
+
+pub check_content-requires : goal.check_content-requires
+check_content-requires c =
+    let m = goal.at.check_content-requires c in
+    (c.requires.0, bound m.In_ok-row, eqb-true _ _ (unless_pass _ _ (sym (sized m.In_ok-unless-3))))
 
 pub returns : goal.returns
 returns c =
-    c.check_content.ensures
-    ∙ sym (rest _ _ _ _ _ _ _ _ _ c.flags_of.ensures c.if-flags-flags_of.false c.selector_limit.ensures c.if-selector_limit-selector.false c.requires.1 c.if-row-ge-ROWS.false
-    ∙ rw c.if-twice.false (value-content _ _ _ (c.if-v-size_of.false ∙ c.size_of.ensures)))
+    let m = goal.at.returns c in
+    goes_on _ _ _ (sized m.In_ok-unless-3) (goes_on _ _ _ c.in_ok-when.ensures c.check_content.ensures) ∙ left m.In_ok-row

@@ -1,87 +1,111 @@
 -- `parts::load_parts` meets its contract: the end, a refusal, or a part that names offered features, a register that is kept, or no row.
-use Rattle.std.proofs.Common.{ℕ, ◌≡◌, ◌-◌, ◌<◌, List, length, get_or, sym, ◌∙◌, ap, arith}
+use Rattle.std.proofs.Common.{ℕ, ◌≡◌, ◌-◌, ◌<◌, length, get_or, sym, ◌∙◌, ap, arith}
+use Rattle.std.proofs.lemmas.Result.{err_from_is_err_and}
 use Rattle.answer.specs.Tests.{flagged}
-use Rattle.registers.specs.Rows.{row_of}
+use Rattle.answer.specs.Checks.{Pass}
 use Rattle.registers.proofs.Cards.{card-small}
 use Rattle.registers.proofs.Rows.{size-most}
 use Rattle.registers.proofs.File.{absent}
-use Rattle.parts.specs.Step.{step_at, value_to}
+use Rattle.parts.specs.Step.{Part, End, step_at, value_to}
 use Rattle.parts.specs.Load.{part_checks, named, seen_in}
-use Rattle.parts.specs.declared.Step.TheVariants.{Part}
 use Rattle.parts.proofs.Steps.{step_says}
-use Rattle.parts.proofs.Loading.{part-size, named-offered, named-kept, named_none, agree, status_named, loop_start, loop_end, loop_refused, loop_fault, loop_offered, loop_kept, loop_skipped}
+use Rattle.parts.proofs.Loading.{part-size, named-offered, named-kept, named_none, gives_refusal, gives_registers, finish-done, finish-fault, loop_start, loop_end, loop_refused, loop_fault, loop_offered, loop_kept, loop_skipped}
 use Rattle.parts.proofs.load_parts.Goals as goal
-use Rattle.parts.proofs.load_parts.Goals.{After-check_part-verdict, then-row-eq0, else-row-eq0+then-row-lt-ROWS, else-row-eq0+else-row-lt-ROWS}
+use Rattle.parts.proofs.load_parts.Goals.{In-Some, After-check_part, In_default-check_part, In_default, in-Some-eq0, in-Some-row, in-None}
 
--- whether the part's row was named before
-known : (c : After-check_part-verdict) → c.if-row-eq0.twice ≡ named (seen_in c.args.words c.loop-status.invariant.features c.loop-status.slots) c.in-Part.kind c.in-Part.selector
+-- the part that stands there
+step : (c : In-Some) → let x = c.in-Some.part in Part x.kind x.flags x.selector x.next ≡ step_at c.args.s.now c.loop-part.at
+step c = rw c.in-Some.is at c.in_ok-part.ensures
+
+-- whether its row was named before
+known : (c : After-check_part) → c.match-row.twice ≡ named (seen_in c.args.words c.loop-part.invariant.features c.loop-part.slots) c.in-Some.part.kind c.in-Some.part.selector
 known c =
-    let e = c.row_of-row.ensures in
-    let i = c.loop-status.invariant in
-    elim c.if-row-eq0.branch [
-      | then-row-eq0 w ↦ w.twice-is ∙ sym i.flag ∙ sym (named-offered _ _ c.loop-status.slots c.in-Part.kind c.in-Part.selector (sym e ∙ w.if-row-eq0.true))
-      | else-row-eq0+then-row-lt-ROWS w ↦
-          w.twice-is ∙ ap (λ (i : ℕ). flagged (get_or c.loop-status.slots (i - 1) absent).set) e
-          ∙ sym (named-kept _ _ c.loop-status.slots c.in-Part.kind c.in-Part.selector (omega arith))
-      | else-row-eq0+else-row-lt-ROWS w ↦ w.twice-is ∙ named_none _ _ c.loop-status.slots c.in-Part.kind c.in-Part.selector i.long (omega arith)
+    let i = c.loop-part.invariant in
+    let x = c.in-Some.part in
+    elim c.match-row.branch [
+      | in-Some-eq0 w ↦
+          let row = rw (w.in-Some-eq0.is, sym w.in-Some-eq0.field-0-is ∙ w.in-Some-eq0.field-0-test) at c.row_of-row.ensures.0 in
+          w.twice-is ∙ sym i.flag ∙ sym (named-offered _ _ c.loop-part.slots x.kind x.selector (sym row))
+      | in-Some-row w ↦
+          let pos = rw w.in-Some-row.is at w.in-Some-row.row-test.1 in
+          w.twice-is ∙ ap (λ (i : ℕ). flagged (get_or c.loop-part.slots (i - 1) absent).set) w.in-Some-row.ensures.0
+          ∙ sym (named-kept _ _ c.loop-part.slots x.kind x.selector (omega (arith, pos, w.in-Some-row.ensures.0)))
+      | in-None w ↦ w.twice-is ∙ named_none _ _ c.loop-part.slots x.kind x.selector i.long (omega (arith, w.in-None.ensures.0))
     ]
 
--- what the checks of the part came to
-checked : (c : After-check_part-verdict)
-    → c.check_part-verdict.result ≡ part_checks c.args.words c.if-row-eq0.twice c.in-Part.kind c.in-Part.flags c.in-Part.selector (value_to c.args.s.now c.loop-status.at c.in-Part.next)
-checked c = c.check_part-verdict.ensures ∙ ap (part_checks c.args.words c.if-row-eq0.twice c.in-Part.kind c.in-Part.flags c.in-Part.selector) c.value_to-v.ensures
+-- it passed its checks
+passed : (c : In_default-check_part) → let x = c.in-Some.part in
+    Pass ≡ part_checks c.args.words c.match-row.twice x.kind x.flags x.selector (value_to c.args.s.now c.loop-part.at x.next)
+passed c = let x = c.in-Some.part in c.in_default-check_part.ensures ∙ ap (part_checks c.args.words c.match-row.twice x.kind x.flags x.selector) c.value_to-v.ensures
 
 -- the next place lies behind
-nearer : (s : List ℕ) (at kind flags selector next : ℕ) → Part kind flags selector next ≡ step_at s at → length s - next < length s - at
-nearer s at kind flags selector next e = let says = step_says s at kind flags selector next e in omega arith
+nearer : (c : In-Some) → length c.args.s.now - c.in-Some.part.next < length c.args.s.now - c.loop-part.at
+nearer c = let says = step_says _ _ _ _ _ _ (step c) in omega arith
 
-pub loop-status-init : goal.loop-status-init
-loop-status-init c = loop_start _ _ _ c.unset-none.ensures
+end : (c : In_default) → End ≡ step_at c.args.s.now c.loop-part.at
+end c = rw c.in_default.is at c.in_ok-part.ensures
 
-pub finish-requires : goal.finish-requires
-finish-requires c = (c.loop-status.invariant.canonical, status_named _ c.loop-status.slots)
+pub loop-part-init : goal.loop-part-init
+loop-part-init c = loop_start _ _ _ c.unset-slots.ensures
 
-pub returns-in-End : goal.returns-in-End
-returns-in-End c = c.finish.ensures c.loop-status.invariant.features ∙ agree _ _ (loop_end _ _ _ _ _ c.loop-status.invariant c.in-End.ensures)
-
-pub returns-in-Refused : goal.returns-in-Refused
-returns-in-Refused c = c.refused.ensures ∙ agree _ _ (loop_refused _ _ _ _ _ c.loop-status.invariant _ _ c.in-Refused.ensures)
+pub returns-in_err-part : goal.returns-in_err-part
+returns-in_err-part c =
+    let p = err_from_is_err_and c.from_residual.result c.from_residual.ensures.1 in
+    rw (p.1, p.2) (gives_refusal _ _ _ (loop_refused _ _ _ _ _ c.loop-part.invariant _ _ c.in_err-part.ensures))
 
 pub value_to-v-requires : goal.value_to-v-requires
-value_to-v-requires c = step_says _ _ _ _ _ _ c.in-Part.ensures
+value_to-v-requires c = step_says _ _ _ _ _ _ (step c)
 
-pub returns-in-Fail : goal.returns-in-Fail
-returns-in-Fail c =
-    let m = (goal.at.returns-in-Fail c).After-check_part-verdict in
-    c.refused-in-Fail.ensures
-    ∙ agree _ _ (loop_fault _ _ _ _ _ c.loop-status.invariant _ _ _ _ c.in-Part.ensures _ (known m) _ _ (sym c.in-Fail.is ∙ checked m))
+pub returns-in-Err : goal.returns-in-Err
+returns-in-Err c =
+    let m = goal.at.returns-in-Err c in
+    let x = c.in-Some.part in
+    let fault = c.in-Err.ensures ∙ ap (part_checks c.args.words c.match-row.twice x.kind x.flags x.selector) c.value_to-v.ensures in
+    rw c.at.ensures (gives_refusal _ _ _ (loop_fault _ _ _ _ _ c.loop-part.invariant _ _ _ _ (step m.In-Some) _ (known m.After-check_part) _ _ fault))
 
-pub holding-r-requires : goal.holding-r-requires
-holding-r-requires c =
-    let size = part-size _ _ _ _ _ _ (sym c.in-Pass.ensures) (omega arith) in
-    omega (arith, size, size-most c.args.words (row_of c.in-Part.kind c.in-Part.selector) (card-small _ c.requires) (omega arith))
+pub holding-requires : goal.holding-requires
+holding-requires c =
+    let row = c.in-Some-row-2.ensures in
+    let size = part-size _ _ _ _ _ _ (sym c.in_default-check_part.ensures) (rw row.0 at row.1) in
+    omega (arith, size, size-most c.args.words _ (card-small _ c.requires) (rw row.0 at row.1))
 
-pub loop-status-smaller-then-row-eq0-2 : goal.loop-status-smaller-then-row-eq0-2
-loop-status-smaller-then-row-eq0-2 c = nearer _ _ _ _ _ _ c.in-Part.ensures
+pub loop-part-smaller-in-Some-eq0-row : goal.loop-part-smaller-in-Some-eq0-row
+loop-part-smaller-in-Some-eq0-row c = nearer (goal.at.loop-part-smaller-in-Some-eq0-row c).In-Some
 
-pub loop-status-preserved-then-row-eq0-2 : goal.loop-status-preserved-then-row-eq0-2
-loop-status-preserved-then-row-eq0-2 c =
-    let m = (goal.at.loop-status-preserved-then-row-eq0-2 c).After-check_part-verdict in
-    loop_offered _ _ _ _ _ c.loop-status.invariant _ _ _ _ c.in-Part.ensures _ (known m) (sym c.in-Pass.is ∙ checked m) (sym c.row_of-row.ensures ∙ c.if-row-eq0-2.true)
+pub loop-part-preserved-in-Some-eq0-row : goal.loop-part-preserved-in-Some-eq0-row
+loop-part-preserved-in-Some-eq0-row c =
+    let m = goal.at.loop-part-preserved-in-Some-eq0-row c in
+    let row = rw (c.in-Some-eq0-row.is, sym c.in-Some-eq0-row.field-0-is ∙ c.in-Some-eq0-row.field-0-test) at c.row_of-row.ensures.0 in
+    loop_offered _ _ _ _ _ c.loop-part.invariant _ _ _ _ (step m.In-Some) _ (known m.After-check_part) (passed m.In_default-check_part) (sym row)
 
-pub loop-status-smaller-then-row-lt-ROWS-2 : goal.loop-status-smaller-then-row-lt-ROWS-2
-loop-status-smaller-then-row-lt-ROWS-2 c = nearer _ _ _ _ _ _ c.in-Part.ensures
+pub loop-part-smaller-in-Some-row-2 : goal.loop-part-smaller-in-Some-row-2
+loop-part-smaller-in-Some-row-2 c = nearer (goal.at.loop-part-smaller-in-Some-row-2 c).In-Some
 
-pub loop-status-preserved-then-row-lt-ROWS-2 : goal.loop-status-preserved-then-row-lt-ROWS-2
-loop-status-preserved-then-row-lt-ROWS-2 c =
-    let m = (goal.at.loop-status-preserved-then-row-lt-ROWS-2 c).After-check_part-verdict in
-    rw (c.holding-r.ensures, c.value_to-v.ensures, c.row_of-row.ensures)
-    (loop_kept _ _ _ _ _ c.loop-status.invariant _ _ _ _ c.in-Part.ensures _ (known m) (sym c.in-Pass.is ∙ checked m) (omega arith) (omega arith))
+pub loop-part-preserved-in-Some-row-2 : goal.loop-part-preserved-in-Some-row-2
+loop-part-preserved-in-Some-row-2 c =
+    let m = goal.at.loop-part-preserved-in-Some-row-2 c in
+    let row = c.in-Some-row-2.ensures in
+    let pos = rw c.in-Some-row-2.is at c.in-Some-row-2.row-test.1 in
+    rw (c.holding.ensures, c.value_to-v.ensures, row.0)
+    (loop_kept _ _ _ _ _ c.loop-part.invariant _ _ _ _ (step m.In-Some) _ (known m.After-check_part) (passed m.In_default-check_part) (omega (arith, pos, row.0)) (omega (arith, row.0, row.1)))
 
-pub loop-status-smaller : goal.loop-status-smaller
-loop-status-smaller c = nearer _ _ _ _ _ _ c.in-Part.ensures
+pub loop-part-smaller : goal.loop-part-smaller
+loop-part-smaller c = nearer (goal.at.loop-part-smaller c).In-Some
 
-pub loop-status-preserved : goal.loop-status-preserved
-loop-status-preserved c =
-    let m = (goal.at.loop-status-preserved c).After-check_part-verdict in
-    loop_skipped _ _ _ _ _ c.loop-status.invariant _ _ _ _ c.in-Part.ensures _ (known m) (sym c.in-Pass.is ∙ checked m) (omega arith)
+pub loop-part-preserved : goal.loop-part-preserved
+loop-part-preserved c =
+    let m = goal.at.loop-part-preserved c in
+    loop_skipped _ _ _ _ _ c.loop-part.invariant _ _ _ _ (step m.In-Some) _ (known m.After-check_part) (passed m.In_default-check_part) (omega (arith, c.in-None-row.ensures.0))
+
+pub returns-in_err-when : goal.returns-in_err-when
+returns-in_err-when c =
+    let p = err_from_is_err_and c.from_residual-in_err-when.result c.from_residual-in_err-when.ensures.1 in
+    let i = c.loop-part.invariant in
+    let m = goal.at.returns-in_err-when c in
+    rw (p.1, p.2) (gives_refusal _ _ _ (loop_end _ _ _ _ _ i (end m.In_default) ∙ finish-fault _ i.features _ _ _ _ (rw c.at-2.ensures at c.in_err-when.ensures)))
+
+pub returns : goal.returns
+returns c =
+    let i = c.loop-part.invariant in
+    let m = goal.at.returns c in
+    gives_registers _ _ _ i.canonical (loop_end _ _ _ _ _ i (end m.In_default) ∙ finish-done _ i.features _ _ (rw c.at-2.ensures at c.in_ok-when.ensures))

@@ -1,5 +1,5 @@
 -- `parts::save` meets its contract.
-use Rattle.std.proofs.Common.{ℕ, ◌≡◌, ◌+◌, length, get_or, take, ◌∙◌, ap, arith}
+use Rattle.std.proofs.Common.{◌≡◌, ◌+◌, length, get_or, take, ◌∙◌, ap, arith}
 use lib.Seq.{sets, length-sets}
 use borrow.Author.Tests.{eq-eqb, ne_eqb}
 use Rattle.registers.specs.Rows.{size_of}
@@ -14,7 +14,7 @@ use Rattle.parts.proofs.save.Goals.{After-put_part, then-r-eq-SET, else-r-eq-SET
 
 -- the buffer that has the part of offered features
 first : (c : After-put_part) → c.put_part.new.buf ≡ sets c.args.buf.now 0 (encoded c.args.words 0 (take (size_of c.args.words 0) features.bytes))
-first c = c.put_part.ensures ∙ rw c.offered-features.ensures
+first c = c.put_part.ensures ∙ rw c.offered.ensures
 
 long : (c : After-put_part) → length c.put_part.new.buf ≡ length c.args.buf.now
 long c = ap length (first c) ∙ length-sets c.args.buf.now 0 (encoded c.args.words 0 (take (size_of c.args.words 0) features.bytes))
@@ -23,7 +23,7 @@ pub put_part-requires : goal.put_part-requires
 put_part-requires c = (
   c.requires.0,
   omega arith,
-  rw c.offered-features.ensures features-whole,
+  rw c.offered.ensures features-whole,
   omega (arith, features-room c.args.words (card-small _ c.requires.0) (file_of c.args.words c.args.registers), c.requires.1),
 )
 
@@ -41,6 +41,10 @@ put_part-requires-then-r-eq-SET c =
     let given = c.requires.1 in
     (c.requires.0, omega arith, whole, omega (arith, c.loop-i.invariant.same, long (goal.at.put_part-requires-then-r-eq-SET c).After-put_part))
 
+pub overflow_add-at-then-r-eq-SET : goal.overflow_add-at-then-r-eq-SET
+overflow_add-at-then-r-eq-SET c =
+    omega (arith, c.size_of.ensures, size-most c.args.words (c.loop-i.i + 1) (card-small _ c.requires.0) (omega arith))
+
 pub overflow_add-at-then-r-eq-SET-2 : goal.overflow_add-at-then-r-eq-SET-2
 overflow_add-at-then-r-eq-SET-2 c =
     let r = get_or c.args.registers.slots c.loop-i.i absent in
@@ -56,7 +60,7 @@ loop-i-preserved c =
     elim c.if-r-eq-SET.branch [
       | then-r-eq-SET w ↦
           left-more _ small _ _ _ _ _ c.loop-i.invariant (omega arith) r shown (slot_whole c.args.registers _ c.well_formed.1.0 c.loop-i.i c.loop-i-test.true)
-          (eq-eqb _ _ w.if-r-eq-SET.true) _ _ (w.buf-is ∙ w.put_part-then-r-eq-SET.ensures) (w.at-is ∙ ap (λ (z : ℕ). c.loop-i.at + 16 + z) w.size_of.ensures)
+          (eq-eqb _ _ w.if-r-eq-SET.true) _ _ (w.buf-is ∙ w.put_part-then-r-eq-SET.ensures) (omega (arith, w.at-is, w.size_of.ensures))
       | else-r-eq-SET w ↦ left-none _ small _ _ _ _ _ c.loop-i.invariant (omega arith) r shown (ne_eqb _ _ w.if-r-eq-SET.false) _ _ w.buf-is w.at-is
     ]
 

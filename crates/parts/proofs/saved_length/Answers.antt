@@ -1,5 +1,5 @@
 -- `parts::saved_length` meets its contract.
-use Rattle.std.proofs.Common.{ℕ, ◌+◌, ◌∙◌, ap, arith}
+use Rattle.std.proofs.Common.{◌+◌, arith}
 use borrow.Author.Tests.{eq-eqb, ne_eqb}
 use Rattle.registers.proofs.Rows.{size-most}
 use Rattle.registers.proofs.File.{slot_row, slot_whole}
@@ -13,6 +13,9 @@ overflow_add-n c = omega (arith, c.size_of-n.ensures, size-most c.args.words 0 (
 pub loop-i-init : goal.loop-i-init
 loop-i-init c = rw c.size_of-n.ensures (count-start _ c.requires _)
 
+pub overflow_add-n-then-r-eq-SET : goal.overflow_add-n-then-r-eq-SET
+overflow_add-n-then-r-eq-SET c = omega (arith, c.size_of.ensures, size-most c.args.words (c.loop-i.i + 1) (omega arith) (omega arith))
+
 pub overflow_add-n-then-r-eq-SET-2 : goal.overflow_add-n-then-r-eq-SET-2
 overflow_add-n-then-r-eq-SET-2 c =
     omega (arith, c.loop-i.invariant.small, c.size_of.ensures, size-most c.args.words (c.loop-i.i + 1) (omega arith) (omega arith))
@@ -23,7 +26,7 @@ loop-i-preserved c =
     elim c.if-r-eq-SET.branch [
       | then-r-eq-SET w ↦
           count-more _ c.requires _ _ _ c.loop-i.invariant (omega arith) _ shown (slot_whole c.args.registers _ c.well_formed.1.0 c.loop-i.i c.loop-i-test.true)
-          (eq-eqb _ _ w.if-r-eq-SET.true) _ (w.n-is ∙ ap (λ (z : ℕ). c.loop-i.n + 16 + z) w.size_of.ensures)
+          (eq-eqb _ _ w.if-r-eq-SET.true) _ (omega (arith, w.n-is, w.size_of.ensures))
       | else-r-eq-SET w ↦ count_none _ c.requires _ _ _ c.loop-i.invariant (omega arith) _ shown (ne_eqb _ _ w.if-r-eq-SET.false) _ w.n-is
     ]
 

@@ -1,6 +1,5 @@
 -- `registers::is_sound` meets its contract.
 use Rattle.std.proofs.Common.{ℕ, ◌≡◌, ◌<◌, ◌≤◌, length, sym, ◌∙◌, arith}
-use borrow.Author.Tests.{ne_eqb}
 use lib.Seq.{length-take-le}
 use Rattle.registers.specs.Cards.{word_room}
 use Rattle.registers.specs.Rows.{row_count, size_of}
@@ -25,7 +24,6 @@ is_good-good-requires c = (
   c.requires.0,
   c.requires.2,
   length-take-le _ _ (fits c.args.r (card-small _ c.requires.0) c.requires.2 c.requires.3 c.size_of-size.ensures) ∙ c.size_of-size.ensures,
-  sym (ne_eqb c.args.row 0 (λ e. omega arith)),
 )
 
 pub returns : goal.returns

@@ -6,5 +6,4 @@ use Rattle.registers.proofs.is_valid_queue.Goals as goal
 pub returns : goal.returns
 returns c =
     simp both_and
-    (rw (c.is_valid_size-sized.ensures, c.get_u16.ensures, c.get_u32-enabled.ensures, c.get_u64.ensures, c.get_u64-2.ensures, c.get_u64-3.ensures)
-    (queue-tested c.args.v.now))
+    (rw (c.is_valid_size-sized.ensures, c.get.ensures, c.get-enabled.ensures, c.get-2.ensures, c.get-3.ensures, c.get-4.ensures) (queue-tested c.args.v.now))

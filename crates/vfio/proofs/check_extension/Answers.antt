@@ -1,18 +1,23 @@
 -- The number that is read is the extension that is asked for.
-use Rattle.std.proofs.Common.{◌≡◌, sym, ◌∙◌, ℕ, Bool, List}
-use Rattle.wire.specs.Field.{field}
-use Rattle.iommu.specs.Table.{is_iommu_type}
-use Rattle.emulator.specs.Requests.{requested_type}
-use Rattle.vfio.proofs.Handlers.{extension_held, extension_not}
+use Rattle.std.proofs.Common.{refl, [], Bool, true, false, ◌≡◌}
+use Rattle.answer.specs.Tests.{pick}
+use mir.Val.{bool_byte}
+use Rattle.emulator.specs.Machine.{Machine}
+use Rattle.emulator.specs.Effect.{value, giving, reporting, filled}
+use Rattle.emulator.specs.Requests.{check_extension, requested_type, listed_checks, listed_effect}
+use Rattle.emulator.specs.Contract.{request_writes}
+use Rattle.vfio.proofs.Handlers.{reports}
 use Rattle.vfio.proofs.check_extension.Goals as goal
 
--- the number that was read
-asked : (buf : List ℕ) {n : ℕ} {r : Bool} → n ≡ field buf 0 4 → r ≡ is_iommu_type n → r ≡ is_iommu_type (requested_type buf)
-unfolding requested_type
-asked buf e f = rw e at f
-
-pub returns-then-is_iommu_type : goal.returns-then-is_iommu_type
-returns-then-is_iommu_type c = extension_held _ (sym (asked _ c.get_u32.ensures c.is_iommu_type.ensures) ∙ c.if-is_iommu_type.true)
+-- the number that a flag is
+flag : {b t : Bool} {k : Machine} → b ≡ t → giving (value (pick t 1 0)) k ≡ reporting (bool_byte b) [] k
+unfolding pick
+flag {b} {t} {k} h = rw h (by t)
+  where
+    by : (t : Bool) → giving (value (pick t 1 0)) k ≡ reporting (bool_byte t) [] k
+    by true = refl
+    by false = refl
 
 pub returns : goal.returns
-returns c = extension_not _ (sym (asked _ c.get_u32.ensures c.is_iommu_type.ensures) ∙ c.if-is_iommu_type.false)
+unfolding listed_checks listed_effect request_writes requested_type filled pick
+returns c = reports check_extension _ _ _ [] (λ e. refl) (λ e. flag (rw c.get.ensures at c.is_iommu_type.ensures)) refl refl

@@ -1,12 +1,11 @@
 -- Each field is written.
 use Rattle.std.proofs.Common.{refl}
+use Rattle.emulator.specs.Effect.{filled}
 use Rattle.emulator.specs.Requests.{get_info, listed_checks, listed_effect}
 use Rattle.emulator.specs.Contract.{request_writes}
-use Rattle.vfio.proofs.Handlers.{reports, put_first, put_last}
+use Rattle.vfio.proofs.Handlers.{reports}
 use Rattle.vfio.proofs.get_info.Goals as goal
 
 pub returns : goal.returns
-unfolding listed_checks listed_effect request_writes
-returns c =
-    reports get_info _ _ 0 _ (λ e. refl) (λ e. refl) refl
-    (put_first _ _ _ _ _ c.put_u32.ensures (put_first _ _ _ _ _ c.put_u32-2.ensures (put_last _ _ _ c.put_u32-3.ensures)))
+unfolding listed_checks listed_effect request_writes filled
+returns c = reports get_info _ _ 0 _ (λ e. refl) (λ e. refl) refl (cc)

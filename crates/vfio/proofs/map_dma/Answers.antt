@@ -1,26 +1,27 @@
--- A plan that goes ahead leaves the new record at its place; one that does not leaves all as it was.
-use Rattle.emulator.proofs.Soundness.{sound-records}
-use Rattle.vfio.proofs.Plans.{map_counts, map-asks, map_replies, map-stays}
+-- A map that its checks let pass puts its mapping at its place.
+use Rattle.emulator.proofs.Soundness.{sound_fits}
+use Rattle.vfio.proofs.Handlers.{handled-refused}
+use Rattle.vfio.proofs.Plans.{held_sound, map_is, insert_asks, count_fits, map_done}
+use Rattle.std.proofs.Common.{◌∙◌, arith}
+use Rattle.emulator.specs.Requests.{map_dma}
 use Rattle.vfio.proofs.map_dma.Goals as goal
 
-pub plan_map-plan-requires : goal.plan_map-plan-requires
-plan_map-plan-requires c = sound-records c.args.state.now c.args.records.now c.requires.0
+pub mappings-held-requires : goal.mappings-held-requires
+mappings-held-requires c = sound_fits c.args.state.now c.args.records.now c.requires.0
+
+pub plan_map-requires : goal.plan_map-requires
+plan_map-requires c = held_sound c.args.state.now c.args.records.now c.requires.0 _ c.mappings-held.ensures
+
+pub returns-in_err-at : goal.returns-in_err-at
+returns-in_err-at c m noted =
+    handled-refused map_dma _ _ _ m _ _ c.from_residual.ensures
+    (c.in_err-at.ensures.checks ∙ map_is c.args.state.now c.args.records.now c.requires.0 _ c.mappings-held.ensures _ _ c.requested_mapping-mapping.ensures m noted)
 
 pub insert-requires : goal.insert-requires
-insert-requires c =
-    map-asks c.args.state.now c.args.records.now c.requires.0 c.args.buf.now c.requested_mapping-mapping.result c.requested_mapping-mapping.ensures
-    c.plan_map-plan.result c.plan_map-plan.ensures c.goes_ahead.ensures c.if-goes_ahead.true c.place_in.result c.place_in.ensures
+insert-requires c = insert_asks c.args.state.now c.args.records.now c.requires.0 _ c.mappings-held.ensures c.args.buf.now _ c.requested_mapping-mapping.ensures _ c.in_ok-at.ensures
 
-pub one_more-state-requires : goal.one_more-state-requires
-one_more-state-requires c = map_counts c.args.state.now c.args.records.now c.requires.0
+pub overflow_add-state : goal.overflow_add-state
+overflow_add-state c = let h = count_fits c.args.state.now c.args.records.now c.requires.0 _ c.mappings-held.ensures c.args.buf.now _ c.requested_mapping-mapping.ensures _ c.in_ok-at.ensures in omega arith
 
-pub returns-then-goes_ahead : goal.returns-then-goes_ahead
-returns-then-goes_ahead c =
-    map_replies c.args.state.now c.args.records.now c.requires.0 c.args.buf.now c.requested_mapping-mapping.result c.requested_mapping-mapping.ensures
-    c.plan_map-plan.result c.plan_map-plan.ensures c.goes_ahead.ensures c.if-goes_ahead.true c.place_in.result c.place_in.ensures
-    c.insert.new.records c.insert.ensures c.one_more-state.result c.one_more-state.ensures
-
-pub returns-else-goes_ahead : goal.returns-else-goes_ahead
-returns-else-goes_ahead c =
-    map-stays c.args.state.now c.args.records.now c.requires.0 c.args.buf.now c.requested_mapping-mapping.result c.requested_mapping-mapping.ensures
-    c.plan_map-plan.result c.plan_map-plan.ensures c.goes_ahead.ensures c.if-goes_ahead.false
+pub returns : goal.returns
+returns c = map_done c.args.state.now c.args.records.now c.requires.0 _ c.mappings-held.ensures _ _ c.requested_mapping-mapping.ensures _ c.in_ok-at.ensures _ c.insert.ensures

@@ -1,7 +1,8 @@
--- One more byte is filled.
-use Rattle.std.proofs.Common.{◌∙◌, arith}
-use Rattle.wire.proofs.Laws.{fill_more}
+use Rattle.std.proofs.Common.{◌≡◌, ◌+◌, ◌-◌, arith}
+use Rattle.wire.proofs.Laws.{part_filled}
 use Rattle.wire.proofs.fill.Goals as goal
 
-pub loop-i-preserved : goal.loop-i-preserved
-loop-i-preserved c = (omega arith, c.loop-i.invariant.1 ∙ fill_more _ c.args.at c.args.n c.loop-i.i c.args.v (omega arith))
+pub returns : goal.returns
+returns c =
+    let n : c.args.at + c.args.n - c.args.at ≡ c.args.n = omega arith in
+    rw (c.fill.ensures.after (λ y e. e), n) (part_filled c.args.buf.now c.args.at c.args.n c.args.v c.requires)

@@ -1,9 +1,0 @@
-use Rattle.std.proofs.Common.{sym, ◌∙◌, arith}
-use Rattle.registers.proofs.Cards.{card-small}
-use Rattle.conformance.proofs.Steps.{good-whole}
-use Rattle.conformance.proofs.value_at.Goals as goal
-
-pub returns-then-is_value : goal.returns-then-is_value
-returns-then-is_value c =
-    rw c.size_of-size.ensures
-    (good-whole c.args.words (card-small _ c.requires.0) c.args.row c.requires.1 c.args.v.now (λ j. omega (arith, c.type_inv.v j)) (sym c.is_value.ensures ∙ c.if-is_value.true))

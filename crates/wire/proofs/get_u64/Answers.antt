@@ -1,6 +1,0 @@
--- A field is its two halves.
-use Rattle.wire.proofs.Laws.{field-halves}
-use Rattle.wire.proofs.get_u64.Goals as goal
-
-pub returns : goal.returns
-returns c = field-halves c.args.s.now c.args.at 4 c.get_u32-low.ensures c.get_u32-high.ensures
