@@ -34,7 +34,9 @@ fn same_header(a: &[u8], b: &[u8]) -> bool
     u64::get(a, 0) == u64::get(b, 0) && u64::get(a, 8) == u64::get(b, 8)
 }
 
-// How many bytes two lists share at their start.
+// How many bytes two lists share at their start. Out of line, as few rows come to it: in place, the compiler takes a header's bytes apart for
+// every row.
+#[inline(never)]
 fn common(a: &[u8], b: &[u8]) -> usize
     ensures { Common a.now b.now result }
 {

@@ -1,10 +1,10 @@
 -- Refusal 1, test by test.
 use Prim.Native.Nat.{◌≤◌, ◌*◌}
-use mathlib.Core.Path.{◌≡◌}
-use mathlib.Core.Bool.{true}
+use mathlib.Core.Path.{◌≡◌, refl, ◌∙◌}
+use mathlib.Core.Bool.{Bool, true}
 use mathlib.Core.List.{List}
 use lib.ListN.{length}
-use lib.Dec.{leb}
+use lib.Dec.{leb, eqb}
 use borrow.Author.Tests.{leb-true, eqb-true}
 use Rattle.answer.specs.Tests.{◌and◌}
 use Rattle.answer.proofs.Tests.{and_true, and_swap}
@@ -45,6 +45,12 @@ module _ (s : State) (rs : List Mapping) where
   unfolding sound sound_card sound_iommu_type sound_interrupts sound_length sound_mappings lendable_records sound_registers machine_of
   sound-is = and_swap _ _ _
 
+  -- of the device, of the mappings, and of both
+  pub sound-found : {device mappings r : Bool} → device ≡ (is_card s.words and is_iommu_type s.iommu_type and sound_lines s.lines.lines and leb s.memory_length memory_limit and sound_file s.words (file_of s.words s.registers))
+      → mappings ≡ (leb (length rs) capacity and leb s.count (length rs) and sound_table s.memory_length (in_use (table_of rs s.count))) → r ≡ (device and mappings)
+      → r ≡ sound (length rs) (machine_of s rs)
+  sound-found d m e = e ∙ rw (d, m) sound-is
+
   module _ (good : sound (length rs) (machine_of s rs) ≡ true) where
     card_and_length : (is_card s.words and is_iommu_type s.iommu_type and sound_lines s.lines.lines and leb s.memory_length memory_limit) ≡ true
     unfolding sound sound_card sound_iommu_type sound_interrupts sound_length machine_of
@@ -80,6 +86,15 @@ module _ (s : State) (rs : List Mapping) where
 -- ---- memory, marks and state
 
 module _ (s : State) (rs : List Mapping) (m : Memory) where
+  -- the code asks for memory and marks first
+  pub usable-is : (lendable m and eqb (length m.bytes) s.memory_length and sound (length rs) (machine_of s rs)) ≡ usable both (emulator_of s rs m)
+  unfolding usable emulator_of as_noted machine_of
+  usable-is = refl
+
+  pub usable-found : {lent kept r : Bool} → lent ≡ (lendable m and eqb (length m.bytes) s.memory_length) → kept ≡ sound (length rs) (machine_of s rs) → r ≡ (lent and kept)
+      → r ≡ usable both (emulator_of s rs m)
+  usable-found l k e = e ∙ rw (l, k) usable-is
+
   module _ (good : usable both (emulator_of s rs m) ≡ true) where
     pub usable-lent : lendable m ≡ true
     unfolding usable emulator_of

@@ -216,8 +216,9 @@ pub fn device_read(
 {
     check_usable(state, records, bytes, shadow)?;
     let mappings = state.mappings(records);
-    let first = dma::check_transfer(mappings, bytes.len(), shadow, d, buf.len(), false)?;
-    dma::read(mappings, first, bytes, d, buf);
+    let checked = dma::check_transfer(mappings, bytes.len(), shadow, d, buf.len(), false);
+    checked.checks?;
+    dma::read(mappings, checked.first, bytes, d, buf);
     Ok(())
 }
 
@@ -234,8 +235,9 @@ pub fn device_write(
 {
     check_usable(state, records, bytes, shadow)?;
     let mappings = state.mappings(records);
-    let first = dma::check_transfer(mappings, bytes.len(), shadow, d, buf.len(), true)?;
-    dma::write(mappings, first, bytes, shadow, d, buf);
+    let checked = dma::check_transfer(mappings, bytes.len(), shadow, d, buf.len(), true);
+    checked.checks?;
+    dma::write(mappings, checked.first, bytes, shadow, d, buf);
     Ok(())
 }
 

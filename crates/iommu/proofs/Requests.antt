@@ -19,7 +19,7 @@ use Rattle.address.specs.declared.DeviceAddress.{DeviceAddress}
 use Rattle.iommu.specs.declared.Mapping.{Mapping}
 use Rattle.iommu.specs.Table.{type1, Nowhere, blank, holds, shown, shown_by, translate, mapped, in_range, sound_table, begins_in, sticks_out, overlaps, cuts, blocked, removed, Placed}
 use Rattle.iommu.specs.Halving.{halved, HalvingFinds}
-use Rattle.iommu.specs.Requests.{map_checks, Maps, Removes, Remains}
+use Rattle.iommu.specs.Requests.{end_of, map_checks, Maps, Removes, Remains}
 use Rattle.iommu.proofs.Soundness.{Facts, mapping-facts, sound-at}
 use Rattle.iommu.proofs.Changes.{without_total, without-sound, map-passed}
 use Rattle.iommu.proofs.Halving.{searched-placed}
@@ -90,9 +90,14 @@ module _ (ms : List Mapping) (at : ℕ) (got : Option (Bor Mapping)) (item : IsI
       go None i e = let l = le-ltb at (length ms) i.3 in and_first _ l (e ∙ sym l)
       go (Some m) i e = let is : m.now ≡ get_or ms at blank = i.4 (omega arith) blank in and_second (lt-ltb _ _ i.3.0) (rw is at e)
 
-pub overlaps-found : (ms : List Mapping) (m : Mapping) (at : ℕ) (held : Bool) → sound_table memory_limit ms ≡ true → Placed ms m.device at held
+pub overlaps-found : (size : ℕ) (ms : List Mapping) (m : Mapping) (at : ℕ) (held : Bool) → sound_table size ms ≡ true → Placed ms m.device at held
     → overlaps m.device m.size ms ≡ (ltb at (length ms) and ltb (get_or ms at blank).device.0 (m.device.0 + m.size))
-overlaps-found ms m at held sound p = rw p.place (overlaps-placed memory_limit m.device m.size ms sound)
+overlaps-found size ms m at held sound p = rw p.place (overlaps-placed size m.device m.size ms sound)
+
+-- the end of a range that is not refused
+pub end_is : (d : DeviceAddress) (n : ℕ) → in_device_range d n ≡ true → end_of d n ≡ device_offset d n
+unfolding end_of
+end_is d n h = pick_true _ _ _ h
 
 -- where the checks pass, the mapping goes to the place of its start
 pub maps-at : (size room : ℕ) (ms : List Mapping) (m : Mapping) (at : ℕ) (held : Bool) → Placed ms m.device at held → Pass ≡ map_checks size room ms m → Maps size room ms m (Ok at)

@@ -1,11 +1,11 @@
 -- The checks of look-up, map and unmap, each list in the order of its rule.
 use Rattle.std.specs.Prelude.{ℕ, ◌+◌, ◌≤◌, ◌≡◌, Bool, true, not, List, ltb, eqb, length, Result, IfOk}
-use Rattle.answer.specs.Tests.{◌and◌}
+use Rattle.answer.specs.Tests.{◌and◌, pick}
 use Rattle.answer.specs.Codes.{Flags, Unaligned, Empty, Range, Overlap, NoRoom, Cuts, Unmapped}
 use Rattle.answer.specs.Checks.{Verdict, ◌then◌, ◌when◌, ◌unless◌}
 use Rattle.answer.specs.Answer.{verdict_of}
 use Rattle.answer.specs.declared.Refusal.{Refusal}
-use Rattle.address.specs.Address.{device_limit, aligned, in_device_range}
+use Rattle.address.specs.Address.{device_limit, aligned, device_offset, in_device_range}
 use Rattle.address.specs.declared.DeviceAddress.{DeviceAddress}
 use Rattle.iommu.specs.declared.Mapping.{Mapping}
 use Rattle.iommu.specs.declared.Run.{Run}
@@ -30,6 +30,10 @@ map_checks size room ms m =
     then Range unless in_range size m
     then Overlap when overlaps m.device m.size ms
     then NoRoom unless ltb (length ms) room
+
+-- rule 3.19: one past the last of the n device addresses from d on; of a range past 2^48, which is refused, its start
+unfoldable pub end_of : DeviceAddress → ℕ → DeviceAddress
+end_of d n = pick (in_device_range d n) (device_offset d n) d
 
 -- rule 3.19: unmap, by the IOMMU type; memory has no part in 9, and Type1 never gives 12 (rule 3.25)
 unfoldable pub unmap_checks : ℕ → List Mapping → ℕ → DeviceAddress → ℕ → Verdict

@@ -8,7 +8,7 @@ ghost use Rattle.answer.specs.Answer.{verdict_of};
 ghost use Rattle.address.specs.Address.{memory_limit};
 ghost use Rattle.iommu.specs.Table.{capacity, translation_of, is_iommu_type, blank, holds as held, valid_rights, aligned_mapping, in_range, sound_mapping, sound_table, shown_by, sticks_out, table_of, in_use, holding, inserted_at, without_run, sizes_between, Sound, Placed};
 ghost use Rattle.iommu.specs.Halving.{halved};
-ghost use Rattle.iommu.specs.Requests.{set_iommu_checks, Maps, Unmaps};
+ghost use Rattle.iommu.specs.Requests.{end_of, set_iommu_checks, Maps, Unmaps};
 
 use address::{DeviceAddress, MemoryAddress};
 use answer::{Reason, Refusal};
@@ -132,7 +132,7 @@ pub fn sound(records: &[Mapping], count: usize, size: u64) -> bool
 // The place of a device address among the mappings, by halving. Which records it looks at is a rule, and callers are told their number, so
 // that it is no `binary_search_by`.
 pub fn find(mappings: &[Mapping], d: DeviceAddress) -> Search
-    requires { Sound mappings.now }
+    requires { sound_table memory_limit mappings.now ≡ true }
     ensures { (result ≡ halved mappings.now d) × Placed mappings.now d result.lo result.held }
 {
     let mut lo = 0;
@@ -189,7 +189,7 @@ pub fn check_set_iommu(count: usize, kind: u32) -> Result<(), Refusal>
 
 // The checks of the map request, for a memory of `size` bytes and a table of `room` records, and the place of the new mapping.
 pub fn plan_map(mappings: &[Mapping], size: u64, room: usize, m: Mapping) -> Result<usize, Refusal>
-    requires { Sound mappings.now }
+    requires { sound_table memory_limit mappings.now ≡ true }
     ensures { Maps size room mappings.now m result }
 {
     Reason::Flags.unless(valid_rights(m.rights))?;
@@ -211,6 +211,17 @@ fn sticks_out_at(mappings: &[Mapping], at: usize, d: DeviceAddress) -> bool
     mappings.get(at).is_some_and(|m| m.sticks_out(d))
 }
 
+// One past the last of the `n` device addresses from `d` on; of a range past 2^48, which is refused, its start.
+pub fn end_of(d: DeviceAddress, n: u64) -> DeviceAddress
+    ensures { result ≡ end_of d n }
+{
+    if address::in_device_range(d, n) {
+        DeviceAddress(d.0 + n)
+    } else {
+        d
+    }
+}
+
 // The checks of the unmap request in a container of IOMMU type `kind`, and the records that go.
 pub fn plan_unmap(
     mappings: &[Mapping],
@@ -219,14 +230,14 @@ pub fn plan_unmap(
     d: DeviceAddress,
     n: u64,
 ) -> Result<Run, Refusal>
-    requires { Sound mappings.now }
+    requires { sound_table memory_limit mappings.now ≡ true }
     ensures { Unmaps kind mappings.now flags d n result }
 {
     Reason::Flags.unless(flags == 0)?;
     Reason::Empty.when(n == 0)?;
     Reason::Unaligned.unless(address::aligned(d.0) && address::aligned(n))?;
     Reason::Range.unless(address::in_device_range(d, n))?;
-    let end = DeviceAddress(d.0 + n);
+    let end = end_of(d, n);
     let from = find(mappings, d).lo;
     let to = find(mappings, end).lo;
     let at_start = sticks_out_at(mappings, from, d);

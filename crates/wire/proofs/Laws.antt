@@ -6,7 +6,7 @@ use mathlib.Core.Path.{◌≡◌, refl, sym, ◌∙◌, ap}
 use mathlib.Core.List.{List, [], ◌∷◌, ◌++◌, append-nil, append_assoc}
 use lib.ListN.{length, get_or, set, take, drop, replicate, length-set, length-drop, length-replicate, drop_of_length-le}
 use borrow.Rule.Slice.PartMut.{put_mid}
-use lib.Seq.{sets, sets-eq, drop-drop, length-take-le, get_or-drop, get_or-set_other, get_or-set_same}
+use lib.Seq.{sets, sets-eq, drop-drop, length-take-le, drop-cons, get_or-drop, get_or-set_other, get_or-set_same}
 use Rattle.wire.specs.Field.{field, bytes_of, slice}
 
 -- ---- bounds
@@ -96,6 +96,16 @@ put-more l at width i y h =
     let e : width - i ≡ suc (width - (i + 1)) = omega arith in
     let f : suc (at + i) ≡ at + (i + 1) = omega arith in
     rw (e, ← f)
+
+-- ---- a loop that copies, the first byte first
+
+pub copy_more : (l src : List ℕ) (to from n i : ℕ) → i < n → from + n ≤ length src
+    → sets l (to + i) (slice src (from + i) (n - i)) ≡ sets (set l (to + i) (get_or src (from + i) 0)) (to + (i + 1)) (slice src (from + (i + 1)) (n - (i + 1)))
+copy_more l src to from n i h room =
+    let e : n - i ≡ suc (n - (i + 1)) = omega arith in
+    let f : suc (to + i) ≡ to + (i + 1) = omega arith in
+    let g : suc (from + i) ≡ from + (i + 1) = omega arith in
+    rw (e, drop-cons src (from + i) 0 (omega arith), ← f, ← g)
 
 -- ---- runs of bytes written
 

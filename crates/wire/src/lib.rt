@@ -98,12 +98,15 @@ impl Number for u64 {
     }
 }
 
-// Copies `n` bytes of `src` from `from` on to `dst` from `to` on.
+// Copies `n` bytes of `src` from `from` on to `dst` from `to` on. It is a loop, which the compiler vectorises, and not `copy_from_slice`, which
+// calls `memmove`: who links the archive for C need not have that.
 pub fn copy(dst: &mut [u8], to: usize, src: &[u8], from: usize, n: usize)
     requires { (to + n ≤ length dst.old) × (from + n ≤ length src.now) }
     ensures { dst.new ≡ sets dst.old to (slice src.now from n) }
 {
-    dst[to..to + n].copy_from_slice(&src[from..from + n]);
+    for i in 0..n {
+        dst[to + i] = src[from + i];
+    }
 }
 
 // Fills `n` bytes of `buf` from `at` on with `v`.

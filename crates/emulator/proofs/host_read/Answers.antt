@@ -1,13 +1,11 @@
-use Rattle.std.proofs.Common.{refl, sym, arith}
+use Rattle.std.proofs.Common.{sym, arith}
 use Rattle.answer.proofs.Checks.{unless_pass}
-use Rattle.memory.specs.Memory.{edited, bytes_from}
 use Rattle.memory.proofs.Transfers.{host_read-room}
 use Rattle.emulator.specs.Machine.{emulator_of}
-use Rattle.emulator.specs.Effect.{filled}
-use Rattle.emulator.specs.Calls.{host_read, given, own_checks, effect}
-use Rattle.emulator.specs.Contract.{writes, state_with, records_with}
-use Rattle.emulator.proofs.Meets.{bench_up, refusal_up, accepted}
+use Rattle.emulator.specs.Calls.{given, own_checks}
+use Rattle.emulator.proofs.Meets.{bench_up, refusal_up}
 use Rattle.emulator.proofs.Soundness.{mark_room, usable-lent}
+use Rattle.emulator.proofs.HostTransfers.{read_done}
 use Rattle.emulator.proofs.host_read.Goals as goal
 
 pub returns-in_err-check_usable : goal.returns-in_err-check_usable
@@ -26,5 +24,4 @@ pub copy-requires : goal.copy-requires
 copy-requires c = (omega arith, host_read-room _ _ _ _ (sym c.in_ok-check_host_read.ensures))
 
 pub returns : goal.returns
-unfolding given own_checks effect emulator_of writes state_with records_with filled edited bytes_from
-returns c = accepted (host_read c.args.a) _ _ _ _ _ _ _ _ c.in_ok-check_usable.ensures c.in_ok-check_host_read.ensures c.copy.ensures refl refl refl
+returns c = read_done c.args.a _ _ _ _ (unless_pass _ _ (sym c.in_ok-check_usable.ensures)) _ (sym c.in_ok-check_host_read.ensures) c.copy.ensures

@@ -1,14 +1,11 @@
-use Rattle.std.proofs.Common.{refl, sym, ◌∙◌, ap, arith, List, ℕ}
-use lib.Seq.{take-length}
+use Rattle.std.proofs.Common.{sym, arith}
 use Rattle.answer.proofs.Checks.{unless_pass}
-use Rattle.memory.specs.Memory.{stores, edited, memory_of}
 use Rattle.memory.proofs.Transfers.{host_write-room}
 use Rattle.emulator.specs.Machine.{emulator_of}
-use Rattle.emulator.specs.Effect.{filled}
-use Rattle.emulator.specs.Calls.{host_write, given, own_checks, effect}
-use Rattle.emulator.specs.Contract.{writes, state_with, records_with}
-use Rattle.emulator.proofs.Meets.{bench_up, refusal_up, accepted}
+use Rattle.emulator.specs.Calls.{given, own_checks}
+use Rattle.emulator.proofs.Meets.{bench_up, refusal_up}
 use Rattle.emulator.proofs.Soundness.{mark_room, usable-lent}
+use Rattle.emulator.proofs.HostTransfers.{write_done}
 use Rattle.emulator.proofs.host_write.Goals as goal
 
 pub returns-in_err-check_usable : goal.returns-in_err-check_usable
@@ -26,8 +23,4 @@ store-requires c =
     (room, omega (arith, room, mark_room _ (usable-lent _ _ _ (unless_pass _ _ (sym c.in_ok-check_usable.ensures)))), omega arith)
 
 pub returns : goal.returns
-unfolding given own_checks effect emulator_of writes state_with records_with filled
-returns c =
-    let a = c.args in
-    accepted (host_write a.a) a.buf.now _ _ _ a.buf.now _ _ _ c.in_ok-check_usable.ensures c.in_ok-check_host_write.ensures refl
-    (c.store.ensures ∙ ap (λ (l : List ℕ). edited (stores a.a l) (memory_of a.bytes.now a.shadow.now)) (take-length a.buf.now)) refl refl
+returns c = write_done c.args.a _ _ _ _ (unless_pass _ _ (sym c.in_ok-check_usable.ensures)) _ (sym c.in_ok-check_host_write.ensures) c.store.ensures

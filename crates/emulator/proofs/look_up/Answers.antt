@@ -13,7 +13,7 @@ pub mappings-mappings-requires : goal.mappings-mappings-requires
 mappings-mappings-requires c = sound_fits _ _ (unless_pass _ _ (then_pass _ _ (sym c.in_default.ensures)).0)
 
 pub find-search-requires : goal.find-search-requires
-find-search-requires c = rw c.mappings-mappings.ensures (sound-records _ _ (unless_pass _ _ (then_pass _ _ (sym c.in_default.ensures)).0))
+find-search-requires c = rw c.mappings-mappings.ensures (sound-records _ _ (unless_pass _ _ (then_pass _ _ (sym c.in_default.ensures)).0)).table
 
 pub target_at-requires : goal.target_at-requires
 target_at-requires c = (rw c.mappings-mappings.ensures (sound-records _ _ (unless_pass _ _ (then_pass _ _ (sym c.in_default.ensures)).0)), c.find-search.ensures.1)

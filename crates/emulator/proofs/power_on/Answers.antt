@@ -1,12 +1,11 @@
-use Rattle.std.proofs.Common.{refl, sym, ◌∙◌, arith}
+use Rattle.std.proofs.Common.{sym, ◌∙◌, arith}
 use Rattle.answer.proofs.Checks.{unless_pass}
+use Rattle.answer.proofs.Tests.{and_made}
 use Rattle.emulator.specs.Machine.{usable, emulator_of, lendable_records}
-use Rattle.emulator.specs.Effect.{filled}
-use Rattle.emulator.specs.Calls.{power_on, given, own_checks, effect}
-use Rattle.emulator.specs.Contract.{writes, records_with}
-use Rattle.emulator.proofs.Meets.{bench_up, accepted}
+use Rattle.emulator.specs.Calls.{given}
+use Rattle.emulator.proofs.Meets.{bench_up}
 use Rattle.emulator.proofs.Soundness.{mark_room, lent-small}
-use Rattle.emulator.proofs.PowerOn.{bench_first, bench_next}
+use Rattle.emulator.proofs.PowerOn.{bench_first, bench_next, power-done}
 use Rattle.emulator.proofs.power_on.Goals as goal
 
 pub returns-in_err-unless : goal.returns-in_err-unless
@@ -26,6 +25,7 @@ clear-requires c =
     (omega (arith, mark_room _ lent), omega (arith, lent-small _ lent))
 
 pub returns : goal.returns
-unfolding given usable emulator_of lendable_records own_checks effect writes records_with filled
+unfolding lendable_records
 returns c =
-    accepted (power_on _) _ _ _ _ _ _ _ _ (bench_next _ _ _ (rw c.lendable.ensures at c.in_ok-unless.ensures) c.in_ok-unless-2.ensures) refl refl (c.clear.ensures _) (c.fresh.ensures _) refl
+    let lent = sym c.lendable.ensures ∙ unless_pass _ _ (sym c.in_ok-unless.ensures) in
+    power-done _ _ _ _ _ _ (and_made _ _ lent (unless_pass _ _ (sym c.in_ok-unless-2.ensures))) (c.clear.ensures _) (c.fresh.ensures _)

@@ -4,7 +4,7 @@ use Rattle.answer.specs.Codes.{NoRoom}
 use Rattle.answer.specs.Checks.{◌unless◌}
 use Rattle.answer.proofs.Tests.{and_true}
 use Rattle.answer.proofs.Checks.{unless_pass, decides, goes_on}
-use Rattle.address.specs.Address.{in_device_range}
+use Rattle.address.specs.Address.{memory_limit, in_device_range}
 use Rattle.iommu.specs.declared.Mapping.{Mapping}
 use Rattle.iommu.specs.Table.{in_range}
 use Rattle.iommu.specs.Requests.{map_checks}
@@ -22,7 +22,7 @@ unfolding map_checks
 returns-in_err-when-2 c =
     let m = c.args.m in
     let below : MatchOption c.get.result (c.is_some_and.result ≡ false) (λ (x : Bor Mapping). c.is_some_and.result ≡ ltb x.now.device.0 (m.device.0 + m.size)) = search rules in
-    let o = looked_below _ _ _ c.get.ensures.lookup _ _ below ∙ sym (overlaps-found _ m _ _ c.requires.table c.find-at.ensures.1) in
+    let o = looked_below _ _ _ c.get.ensures.lookup _ _ below ∙ sym (overlaps-found memory_limit _ m _ _ c.requires c.find-at.ensures.1) in
     let e = decides _ (NoRoom unless ltb (length c.args.mappings.now) c.args.room) _ _ (rw o at c.in_err-when-2.ensures) in
     let r : c.from_residual-in_err-when-2.result ≡ Err c.in_err-when-2.field-0.0 = search rules in
     record { checks = rw r (grind (arith, decides, goes_on)); place = search rules }
@@ -32,7 +32,7 @@ unfolding map_checks
 returns-in_err-unless-4 c =
     let m = c.args.m in
     let below : MatchOption c.get.result (c.is_some_and.result ≡ false) (λ (x : Bor Mapping). c.is_some_and.result ≡ ltb x.now.device.0 (m.device.0 + m.size)) = search rules in
-    let o = looked_below _ _ _ c.get.ensures.lookup _ _ below ∙ sym (overlaps-found _ m _ _ c.requires.table c.find-at.ensures.1) in
+    let o = looked_below _ _ _ c.get.ensures.lookup _ _ below ∙ sym (overlaps-found memory_limit _ m _ _ c.requires c.find-at.ensures.1) in
     let e = rw o at c.in_ok-when-2.ensures in
     record { checks = grind (arith, decides, goes_on); place = search rules }
 
@@ -41,6 +41,6 @@ unfolding map_checks
 returns c =
     let m = c.args.m in
     let below : MatchOption c.get.result (c.is_some_and.result ≡ false) (λ (x : Bor Mapping). c.is_some_and.result ≡ ltb x.now.device.0 (m.device.0 + m.size)) = search rules in
-    let o = looked_below _ _ _ c.get.ensures.lookup _ _ below ∙ sym (overlaps-found _ m _ _ c.requires.table c.find-at.ensures.1) in
+    let o = looked_below _ _ _ c.get.ensures.lookup _ _ below ∙ sym (overlaps-found memory_limit _ m _ _ c.requires c.find-at.ensures.1) in
     let e = rw o at c.in_ok-when-2.ensures in
     maps-at _ _ _ _ _ _ c.find-at.ensures.1 (grind (arith, decides, goes_on))

@@ -10,7 +10,7 @@ pub mappings-held-requires : goal.mappings-held-requires
 mappings-held-requires c = sound_fits c.args.state.now c.args.records.now c.requires.0
 
 pub plan_map-requires : goal.plan_map-requires
-plan_map-requires c = held_sound c.args.state.now c.args.records.now c.requires.0 _ c.mappings-held.ensures
+plan_map-requires c = (held_sound c.args.state.now c.args.records.now c.requires.0 _ c.mappings-held.ensures).table
 
 pub returns-in_err-at : goal.returns-in_err-at
 returns-in_err-at c m noted =

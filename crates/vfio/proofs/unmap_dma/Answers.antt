@@ -11,7 +11,7 @@ pub mappings-held-requires : goal.mappings-held-requires
 mappings-held-requires c = sound_fits c.args.state.now c.args.records.now c.requires.0
 
 pub plan_unmap-requires : goal.plan_unmap-requires
-plan_unmap-requires c = held_sound c.args.state.now c.args.records.now c.requires.0 _ c.mappings-held.ensures
+plan_unmap-requires c = (held_sound c.args.state.now c.args.records.now c.requires.0 _ c.mappings-held.ensures).table
 
 pub returns-in_err-run : goal.returns-in_err-run
 returns-in_err-run c m noted =

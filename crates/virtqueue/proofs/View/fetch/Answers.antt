@@ -22,7 +22,7 @@ returns-in_err-when-clause-reads c =
     rw (p.1, p.2) (stays _ _ _ ∙ s.1 ∙ sym (far-read c.args.self.now _ _ c.requires.some c.requires.page _ c.saturating_add-start.ensures (ltb-true _ _ s.0)))
 
 pub find-found-requires : goal.find-found-requires
-find-found-requires c = ready-sound c.args.self.now.walkable.ready
+find-found-requires c = (ready-sound c.args.self.now.walkable.ready).table
 
 pub returns-in_err-when-2-clause-reads : goal.returns-in_err-when-2-clause-reads
 returns-in_err-when-2-clause-reads c =
