@@ -299,7 +299,9 @@ fn check_header(file: &[u8]) -> Result<(), Refusal>
     Reason::Magic.unless(is_magic(u32::get(file, 0)))
 }
 
-// Judges the whole file, and finds record `n`.
+// Judges the whole file, and finds record `n`. In place in its three callers, each of which wants another part of what it notes: out of line,
+// all of that goes through memory.
+#[inline(always)]
 fn scan(file: &[u8], n: u64) -> Result<Notes, Refusal>
     ensures { told result ≡ scan_of n (read_file file.now) }
 {

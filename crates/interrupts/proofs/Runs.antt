@@ -25,13 +25,14 @@ run-first f j at n [] d h = absurd (omega arith)
 run-first f j (suc at) n (l ∷ ls) d h = ap (λ (t : List Line). l ∷ t) (run-first f j at n ls d (omega arith))
 run-first f j zero n (l ∷ ls) d h = refl
 
--- one turn of a loop over `n` lines, at offset `j`
-pub run_more : (f : ℕ → Line → Line) (n j : ℕ) (ls : List Line) (d : Line) → j < n → j < length ls
-    → changed_run f j j (n - j) ls ≡ changed_run f (j + 1) (j + 1) (n - (j + 1)) (set ls j (f j (get_or ls j d)))
-run_more f n j ls d h room =
+-- one turn of a loop over `n` lines from `at` on, at offset `j`
+pub run_more : (f : ℕ → Line → Line) (at n j : ℕ) (ls : List Line) (d : Line) → j < n → at + j < length ls
+    → changed_run f j (at + j) (n - j) ls ≡ changed_run f (j + 1) (at + (j + 1)) (n - (j + 1)) (set ls (at + j) (f j (get_or ls (at + j) d)))
+run_more f at n j ls d h room =
     let e : n - j ≡ suc (n - (j + 1)) = omega arith in
+    let g : suc (at + j) ≡ at + (j + 1) = omega arith in
     let k : suc j ≡ j + 1 = omega arith in
-    rw (e, ← k) (run-first f j j (n - suc j) ls d room)
+    rw (e, ← g, ← k) (run-first f j (at + j) (n - suc j) ls d room)
 
 -- a run from the first line on leaves what lies behind it
 run-split : (f : ℕ → Line → Line) (j n : ℕ) (ls : List Line) → n ≤ length ls → changed_run f j 0 n (take n ls) ++ drop n ls ≡ changed_run f j 0 n ls

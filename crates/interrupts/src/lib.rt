@@ -1,7 +1,7 @@
 // The interrupt lines of the device: what each keeps, the request that sets them up and acts on them, and the look at one.
 #![tactic(auto, using(answer::proofs::Checks::decides, answer::proofs::Checks::goes_on))]
 
-ghost use Rattle.std.specs.Prelude.{◌≡◌, Result, ◌+◌, ◌*◌, ◌/◌, ◌%◌, ◌<◌, ◌≤◌, length, false, negsuc, ◌==◌, int_lt, nat_eq, nat_lt, is_some, unwrap_or, IfOk};
+ghost use Rattle.std.specs.Prelude.{◌≡◌, Result, ◌+◌, ◌*◌, ◌/◌, ◌%◌, ◌<◌, ◌≤◌, length, false, negsuc, ◌==◌, int_lt, nat_eq, nat_lt, is_some, unwrap_or, IfOk, MatchResult};
 ghost use Rattle.answer.specs.Tests.{◌and◌};
 ghost use Rattle.answer.specs.Codes.{Index};
 ghost use Rattle.answer.specs.Checks.{Pass, ◌unless◌};
@@ -482,19 +482,21 @@ pub fn set(lines: Lines, buf: &[u8]) -> Lines
     requires { (data_start ≤ length buf.now) × (argsz_of buf.now ≤ length buf.now) × (set_checks buf.now ≡ Pass) }
     ensures { result.lines ≡ changed_lines buf.now lines.lines }
 {
-    try_set(lines, buf).unwrap()
+    let mut lines = lines;
+    try_set(&mut lines, buf).unwrap();
+    lines
 }
 
-// The lines after a request, where it passes its checks.
-pub fn try_set(lines: Lines, buf: &[u8]) -> Result<Lines, Refusal>
+// Changes the lines by a request, where it passes its checks. It is done in place: lines that are handed on as a value take stack for each
+// copy.
+pub fn try_set(lines: &mut Lines, buf: &[u8]) -> Result<(), Refusal>
     requires { (data_start ≤ length buf.now) × (argsz_of buf.now ≤ length buf.now) }
     ensures checks { verdict_of result ≡ set_checks buf.now }
-    ensures effect { IfOk result (λ l. l.lines ≡ changed_lines buf.now lines.lines) }
+    ensures effect { MatchResult result (λ _. lines.new.lines ≡ changed_lines buf.now lines.old.lines) (λ _. lines.new ≡ lines.old) }
 {
     let request = Request::read(buf)?;
-    let mut lines = lines.lines;
-    request.change(&mut lines, buf);
-    Ok(Lines { lines })
+    request.change(&mut lines.lines, buf);
+    Ok(())
 }
 
 // ---- showing a line

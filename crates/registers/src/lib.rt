@@ -459,33 +459,42 @@ pub fn check_set(words: u8, kind: u64, selector: u64, v: &[u8]) -> Result<(), Re
     check_content(words, row, v)
 }
 
-// The registers with one set to a value. Whatever `check_set` passes names a register that is kept, and fits into it.
+// Sets one register to a value, in place. Whatever `check_set` passes names a register that is kept, and fits into it.
 #[tactic(auto, using(crate::proofs::Listed::row_there))]
+fn put(registers: &mut Registers, kind: u64, selector: u64, v: &[u8])
+    requires { (0 < row_of kind selector) × (row_of kind selector < row_count) × (length v.now ≤ 32) }
+    ensures { registers.new.slots ≡ with_element registers.old.slots (row_of kind selector - 1) (register_of (some v.now)) }
+{
+    let row = row_of(kind, selector).unwrap();
+    registers.slots[row - 1] = holding(v);
+}
+
+// The registers with one set to a value.
 pub fn set(registers: Registers, kind: u64, selector: u64, v: &[u8]) -> Registers
     requires { (0 < row_of kind selector) × (row_of kind selector < row_count) × (length v.now ≤ 32) }
     ensures { result.slots ≡ with_element registers.slots (row_of kind selector - 1) (register_of (some v.now)) }
 {
-    let row = row_of(kind, selector).unwrap();
-    let mut slots = registers.slots;
-    slots[row - 1] = holding(v);
-    Registers { slots }
+    let mut registers = registers;
+    put(&mut registers, kind, selector, v);
+    registers
 }
 
-// The same, where the checks pass.
+// Sets one register to a value, where the checks pass. It is done in place: registers that are handed on as a value take stack for each copy.
 #[tactic(auto, using(crate::proofs::Access::set_fits))]
 pub fn try_set(
     words: u8,
-    registers: Registers,
+    registers: &mut Registers,
     kind: u64,
     selector: u64,
     v: &[u8],
-) -> Result<Registers, Refusal>
+) -> Result<(), Refusal>
     requires { is_card words ≡ true }
     ensures checks { verdict_of result ≡ set_checks words kind selector v.now }
-    ensures registers { IfOk result (λ r. r.slots ≡ with_element registers.slots (row_of kind selector - 1) (register_of (some v.now))) }
+    ensures registers { MatchResult result (λ _. registers.new.slots ≡ with_element registers.old.slots (row_of kind selector - 1) (register_of (some v.now))) (λ _. registers.new ≡ registers.old) }
 {
     check_set(words, kind, selector, v)?;
-    Ok(set(registers, kind, selector, v))
+    put(registers, kind, selector, v);
+    Ok(())
 }
 
 // Reading into a buffer of `room` bytes.

@@ -178,7 +178,7 @@ fn set_irqs(state: &mut State, buf: &[u8]) -> Result<u64, Refusal>
     requires { (20 ≤ length buf.now) × (field buf.now 0 4 ≤ length buf.now) }
     ensures { Keeps set_irqs buf.now state.old (told result) buf.now state.new }
 {
-    state.lines = interrupts::try_set(state.lines, buf)?;
+    interrupts::try_set(&mut state.lines, buf)?;
     Ok(0)
 }
 

@@ -1,4 +1,5 @@
 use Rattle.std.proofs.Common.{◌≡◌, ◌+◌, ◌-◌, ◌≤◌, true, false, length, take, drop, length-take-le, length-drop, sym, ◌∙◌, arith}
+use native.Mathlib.Nat.{zero-add}
 use Rattle.interrupts.specs.Lines.{stored}
 use Rattle.interrupts.specs.Requests.{flags_of, count_of, disables, range_start, range_count, changed_line}
 use Rattle.interrupts.proofs.Runs.{run_none, run_more}
@@ -80,9 +81,8 @@ pub loop-j-preserved : goal.loop-j-preserved
 unfolding stored
 loop-j-preserved c =
     let is = long (goal.at.loop-j-preserved c).Else-disables in
-    rw c.changed.ensures
-    (sym (run_more (changed_line c.args.buf.now) c.args.self.count c.loop-j.j c.loop-j.range (stored 0) (omega (arith, c.loop-j-test.true, is)) (omega (arith, c.loop-j-test.true, c.loop-j.auto.range)))
-    ∙ c.loop-j.invariant)
+    let turn = run_more (changed_line c.args.buf.now) 0 c.args.self.count c.loop-j.j c.loop-j.range (stored 0) (omega (arith, c.loop-j-test.true, is)) (omega (arith, c.loop-j-test.true, c.loop-j.auto.range)) in
+    rw c.changed.ensures (sym (simp zero-add at turn) ∙ c.loop-j.invariant)
 
 pub returns : goal.returns
 returns c =
